@@ -1,5 +1,6 @@
 //! A reply line as pieces, put to a sink one after another.
 #![tactic(auto)]
+
 ghost use Rattle.std.specs.Prelude.{OnOk, OnErr};
 ghost use Rattle.outside_io.specs.Causes.{HasCause};
 ghost use Rattle.outside_io.specs.Streams.{Adds, AddsFront};

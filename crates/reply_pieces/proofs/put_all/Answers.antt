@@ -1,6 +1,5 @@
-use Rattle.std.proofs.Common.{◌≡◌, ℕ, ◌+◌, ◌<◌, List, ◌++◌, length, drop, get_or, Option, ap, subst, arith, rules}
+use Rattle.std.proofs.Common.{ℕ, ◌+◌, ◌<◌, List, ◌++◌, length, drop, get_or, Option, ap, subst, arith}
 use Rattle.std.proofs.lemmas.List.{drop_more}
-use Rattle.std.proofs.lemmas.Result.{on_err_weaker}
 use Rattle.outside_io.specs.Streams.{Adds, AddsFront}
 use Rattle.outside_io.proofs.Puts.{PutSoFar, one_put, front_put}
 use Rattle.reply_pieces.specs.Pieces.{piece_text, text_of}
