@@ -1,0 +1,4 @@
+pub mod Positions
+pub mod Laying
+pub mod Calling
+pub mod Laws
