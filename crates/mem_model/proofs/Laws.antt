@@ -3,6 +3,7 @@ use Rattle.std.proofs.Common.{◌≡◌, ◌≢◌, ℕ, ◌+◌, ◌-◌, ◌�
 use Rattle.std.specs.List.{AllByRecursion}
 use Rattle.std.proofs.lemmas.Bool.Decides.{eqb_tells}
 use Rattle.std.proofs.lemmas.Bool.{ne_eqb, eq-eqb}
+use Rattle.std.proofs.lemmas.List.{length-replicate}
 use Rattle.mem_model.specs.Event.{Event, Event.LowAlloc, Shortage}
 use Rattle.mem_model.specs.Blocks.{HunkBlock}
 use Rattle.mem_model.specs.Memory.{Memory, room, low_used, size_of}
@@ -103,6 +104,13 @@ low_bytes-new m size place name laid h =
     ap (λ low. bytes_above low place) given.0 ∙ new_above m.low _ place laid.low given.1
     ∙ ap (λ n. Some (replicate n 0)) (let same : hunk_need size - 16 ≡ round_up size 16 = omega arith in same)
 
+-- Its length is that of the request, rounded up.
+pub length-new : (m : Memory) (size place : ℕ) (name bytes : List ℕ) → Laid m → (low_alloc m size name).answer ≡ Ok place → low_bytes (low_alloc m size name).after place ≡ Some bytes → length bytes ≡ round_up size 16
+length-new m size place name bytes laid h there =
+    let new : Some (replicate (round_up size 16) 0) ≡ Some bytes = sym (low_bytes-new m size place name laid h) ∙ there in
+    let same : replicate (round_up size 16) 0 ≡ bytes = cc in
+    sym (ap length same) ∙ length-replicate (round_up size 16) 0
+
 written_from : (start : ℕ) (blocks : List HunkBlock) (place : ℕ) (old bytes : List ℕ) → bytes_from start blocks place ≡ Some old → bytes_from start (with_bytes_from start blocks place bytes) place ≡ Some (over old bytes)
 written_from start [] place old bytes h = absurd (cc)
 written_from start (b ∷ bs) place old bytes h =
@@ -160,4 +168,4 @@ low_place_apart m size place other name bytes laid h there same =
     omega (arith, (low-low_alloc m size place name h).1, low_bytes-inside m other bytes laid there)
 
 -- for callers: `#[tactic(auto, using(mem_model::proofs::Laws::store_laws))]`
-pub ruleset store_laws = (low_place_apart, low_bytes-low_alloc, low_bytes-new, low_bytes-written, low_bytes-elsewhere, Laid-with_low_bytes)
+pub ruleset store_laws = (low_place_apart, low_bytes-low_alloc, low_bytes-new, length-new, low_bytes-written, low_bytes-elsewhere, Laid-with_low_bytes)

@@ -24,11 +24,11 @@ pub Laid-new_memory : (size zone users : ℕ) → IsMultiple 16 zone → 64 ≤ 
 Laid-new_memory size zone users whole least small fits = record {
   small = small;
   inside = omega arith;
-  low = (record { header = omega arith; whole = (suc whole.0, omega (arith, whole.1)); name = refl; bytes = refl }, tt);
+  low = (record { header = omega arith; whole = omega (arith, whole); name = refl; bytes = refl }, tt);
   high = tt;
   temp = tt;
   zone = record {
-    blocks = (record { least = omega arith; whole = (2 * whole.0 - 4, omega (arith, whole.1)); bytes = refl }, tt);
+    blocks = (record { least = omega arith; whole = omega (arith, whole); bytes = refl }, tt);
     tiles = omega arith;
     merged = tt;
     rover = omega arith;
@@ -41,7 +41,7 @@ Laid-new_memory size zone users whole least small fits = record {
 pub IsHunkBlock-hunk_block : (size : ℕ) (name : List ℕ) → IsText name → IsHunkBlock (hunk_block (hunk_need size) name)
 IsHunkBlock-hunk_block size name text = record {
   header = omega arith;
-  whole = ((size + 15) / 16 + 1, omega arith);
+  whole = omega arith;
   short = omega (arith, length-take 8 name);
   text = All-take (λ byte. byte ≢ 0) 8 name text;
   bytes = length-replicate (hunk_need size - 16) 0;

@@ -1,7 +1,8 @@
 -- The cache between the hunks: what moves, and what leaves.
 use Prim.Native.Nat.{zero, suc}
-use Rattle.std.specs.Prelude.{ℕ, ◌-◌, ◌*◌, List, [], ◌∷◌, nat_lt, nat_eq, not, Option, Some, None, is_some, filter, find, if◌then◌else◌, take, replicate, length}
+use Rattle.std.specs.Prelude.{ℕ, ◌+◌, ◌-◌, ◌*◌, List, [], ◌∷◌, nat_lt, nat_eq, not, Option, Some, None, is_some, filter, find, if◌then◌else◌, take, replicate, length}
 use Rattle.std.specs.List.{list_any, range_with_len}
+use Rattle.std.specs.Option.{option_map}
 use Rattle.mem_model.specs.Blocks.{CacheBlock}
 use Rattle.mem_model.specs.Memory.{Cache}
 use Rattle.mem_model.specs.Places.{hop, fit, end_of, least}
@@ -27,6 +28,10 @@ touched c user = record c { recency = user ∷ without_user c.recency user }
 
 abbrev pub block_of : Cache → ℕ → Option CacheBlock
 block_of c user = find (λ b. nat_eq b.user user) c.blocks
+
+-- where the payload of a user's block begins
+abbrev pub peek_place : Cache → ℕ → Option ℕ
+peek_place c user = option_map (λ b. b.place + 40) (block_of c user)
 
 -- the cache with one of its blocks moved to a place, and its user as the most recently used
 abbrev pub moved : Cache → CacheBlock → ℕ → Cache

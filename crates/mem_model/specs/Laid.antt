@@ -1,14 +1,14 @@
 -- What holds of every memory: its blocks lie inside the arena, and no two of them meet.
-use Rattle.std.specs.Prelude.{ℕ, ◌≡◌, ◌≢◌, ◌+◌, ◌-◌, ◌*◌, ◌^◌, ◌<◌, ◌≤◌, List, [], ◌∷◌, ◌++◌, Option, Some, None, IsTrue, ◌⊎◌, All, length, nat_eq, if◌then◌else◌, codes}
+use Rattle.std.specs.Prelude.{ℕ, ◌≡◌, ◌≢◌, ◌+◌, ◌-◌, ◌%◌, ◌^◌, ◌<◌, ◌≤◌, List, [], ◌∷◌, ◌++◌, Option, Some, None, IsTrue, ◌⊎◌, All, length, nat_eq, if◌then◌else◌, codes}
 use Rattle.std.specs.List.{AllByRecursion}
 use Rattle.mem_model.specs.Blocks.{HunkBlock, ZoneBlock, CacheBlock}
 use Rattle.mem_model.specs.Places.{end_of}
 use Rattle.mem_model.specs.Zone.{size_of_zone}
 use Rattle.mem_model.specs.Memory.{Memory, Zone, Cache, size_of, low_used, high_used, high_start}
 
--- a whole number of k
+-- n is a multiple of k
 abbrev pub IsMultiple : ℕ → ℕ → Type 0
-IsMultiple k n = (q : ℕ) × (n ≡ q * k)
+IsMultiple k n = n % k ≡ 0
 
 -- no byte is zero
 abbrev pub IsText : List ℕ → Type 0

@@ -5,7 +5,7 @@ use Rattle.mem_model.specs.Places.{hunk_need, zone_need, cache_need, round_up}
 use Rattle.mem_model.specs.Event.{Event.LowAlloc, Event.TempAlloc, Event.HighAlloc, Event.LowFree, Event.HighFree, Event.HighMark, Event.ZoneAlloc, Event.ZoneFree, Event.CacheAlloc, Event.Check, Event.CacheFree, Event.Flush, Shortage, FreeRefusal, FreeRefusal.NotZone, FreeRefusal.AlreadyFree, CacheRefusal, CacheRefusal.Occupied, CacheRefusal.BadSize, CacheRefusal.NoRoom}
 use Rattle.mem_model.specs.Memory.{Memory, low_used, high_used, high_start, room}
 use Rattle.mem_model.specs.Answer.{Answered, noted}
-use Rattle.mem_model.specs.Cache.{with_new, block_of, without, touched}
+use Rattle.mem_model.specs.Cache.{with_new, block_of, peek_place, without, touched}
 use Rattle.mem_model.specs.Zone.{chosen, with_taken, with_free, position_of, place_at}
 use Rattle.mem_model.specs.Hunk.{hunk_block, with_low, with_high, without_temp, cut_from, cut_above}
 
@@ -99,13 +99,10 @@ cache_alloc m user size name =
     else record { answer = Ok tt; after = record m { cache = with_new m.cache (low_used m) (high_start m) need user name } })
     (CacheAlloc user size)
 
-abbrev pub checked : Memory → ℕ → Option CacheBlock → Answered (Option ℕ)
-checked m user None = record { answer = None; after = m }
-checked m user (Some b) = record { answer = Some (b.place + 40); after = record m { cache = touched m.cache user } }
-
--- The place of the payload of a user's block is read; a user that has one becomes the most recently used.
+-- The place of the payload of a user's block is read. A user that has a block becomes the most recently used.
 unfoldable pub check : Memory → ℕ → Answered (Option ℕ)
-check m user = noted (checked m user (block_of m.cache user)) (Check user)
+check m user =
+    noted (record { answer = peek_place m.cache user; after = if is_some (block_of m.cache user) then record m { cache = touched m.cache user } else m }) (Check user)
 
 -- A user's block is freed, where it has one.
 unfoldable pub cache_free : Memory → ℕ → Answered Bool

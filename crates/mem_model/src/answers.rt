@@ -7,7 +7,7 @@ use std::alloc::AllocError;
 pub struct Place(pub u32);
 
 /// Why a hunk gave no block.
-#[derive(Debug, Drop)]
+#[derive(Clone, Copy, Debug, PartialEq, Eq)]
 pub enum RoomError {
     /// The block needs `asked` bytes, its header included, and there are `room`.
     NoRoom { asked: u64, room: u64 },
@@ -15,7 +15,7 @@ pub enum RoomError {
 }
 
 /// Why a store was not made.
-#[derive(Debug, Drop)]
+#[derive(Clone, Copy, Debug, PartialEq, Eq)]
 pub enum StoreStart {
     /// The arena does not hold the zone's block.
     TooSmall,

@@ -8,6 +8,9 @@ mod cells;
 mod plain;
 mod store;
 
+#[cfg(test)]
+mod tests;
+
 pub use answers::{Place, RoomError, StoreStart};
 pub use plain::PlainStore;
 pub use store::Store;
