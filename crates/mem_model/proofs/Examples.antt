@@ -1,13 +1,11 @@
 -- Worked examples, on a memory of 65536 bytes with a zone of 49152 and 8 users. Its low hunk ends at 49168.
-use Rattle.std.proofs.Common.{◌≡◌, ℕ, List, [], ◌∷◌, Bool, Option, Some, None, Result, Ok, Err, refl, true, false, map}
-use Rattle.mem_model.specs.Blocks.{HunkBlock, ZoneBlock, CacheBlock}
-use Rattle.mem_model.specs.Event.{Event, Event.LowAlloc, Event.TempAlloc, Event.HighMark, Event.LowFree, Shortage, FreeRefusal, FreeRefusal.NotZone, FreeRefusal.AlreadyFree, CacheRefusal, CacheRefusal.Occupied, CacheRefusal.BadSize, CacheRefusal.NoRoom}
-use Rattle.mem_model.specs.Memory.{Memory, Zone, Cache, new_memory, low_used, room}
+use Rattle.std.proofs.Common.{◌≡◌, ℕ, List, [], ◌∷◌, Bool, Some, None, Ok, Err, refl, true, false, map}
+use Rattle.mem_model.specs.Event.{Event.LowAlloc, Event.TempAlloc, Event.HighMark, Event.LowFree, FreeRefusal.NotZone, FreeRefusal.AlreadyFree, CacheRefusal.Occupied, CacheRefusal.BadSize, CacheRefusal.NoRoom}
+use Rattle.mem_model.specs.Memory.{Memory, new_memory, room}
 use Rattle.mem_model.specs.Places.{fit, hop}
 use Rattle.mem_model.specs.Cache.{hopped, up_in, pushed_up, down_in, pushed_down, evictions, with_new, peek_place}
 use Rattle.mem_model.specs.Zone.{chosen, with_taken, joined_at, with_free, position_of}
 use Rattle.mem_model.specs.Hunk.{with_low, with_high, without_temp}
-use Rattle.mem_model.specs.Answer.{Answered}
 use Rattle.mem_model.specs.Operations.{low_alloc, low_free, high_taken, high_alloc, high_free, high_mark, temp_alloc, z_alloc, z_free, cache_alloc, check, cache_free, flush}
 
 abbrev fresh : Memory

@@ -1,5 +1,5 @@
 -- What keeps a memory laid out.
-use Rattle.std.proofs.Common.{◌≡◌, ℕ, suc, zero, ◌+◌, ◌-◌, ◌*◌, ◌/◌, ◌≤◌, List, [], ◌∷◌, ◌++◌, true, false, length, take, refl, ap, ◌∙◌, arith, eqb, cond, length-append, length-drop, length-take}
+use Rattle.std.proofs.Common.{◌≡◌, ℕ, suc, zero, ◌+◌, ◌-◌, ◌≤◌, List, [], ◌∷◌, ◌++◌, true, false, length, take, refl, ap, ◌∙◌, arith, eqb, cond, length-append, length-drop, length-take}
 use Rattle.std.specs.Prelude.{◌^◌, ◌≢◌}
 use Rattle.std.proofs.lemmas.List.{drop_all, take_at, length-replicate}
 use Rattle.std.proofs.lemmas.List.Elements.{All-take}

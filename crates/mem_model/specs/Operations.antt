@@ -1,6 +1,6 @@
 -- The operations of the memory: each gives an answer and the memory after it, its event noted.
 use Rattle.std.specs.Prelude.{ℕ, ◌+◌, ◌-◌, List, [], Bool, nat_lt, nat_eq, Option, Some, None, is_some, Result, Ok, Err, is_ok, if◌then◌else◌, slice_get, codes}
-use Rattle.mem_model.specs.Blocks.{HunkBlock, ZoneBlock, CacheBlock}
+use Rattle.mem_model.specs.Blocks.{HunkBlock, ZoneBlock}
 use Rattle.mem_model.specs.Places.{hunk_need, zone_need, cache_need, round_up}
 use Rattle.mem_model.specs.Event.{Event.LowAlloc, Event.TempAlloc, Event.HighAlloc, Event.LowFree, Event.HighFree, Event.HighMark, Event.ZoneAlloc, Event.ZoneFree, Event.CacheAlloc, Event.Check, Event.CacheFree, Event.Flush, Shortage, FreeRefusal, FreeRefusal.NotZone, FreeRefusal.AlreadyFree, CacheRefusal, CacheRefusal.Occupied, CacheRefusal.BadSize, CacheRefusal.NoRoom}
 use Rattle.mem_model.specs.Memory.{Memory, low_used, high_used, high_start, room}

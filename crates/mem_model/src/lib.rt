@@ -7,7 +7,6 @@ mod answers;
 mod cells;
 mod plain;
 mod store;
-
 #[cfg(test)]
 mod tests;
 

@@ -5,7 +5,7 @@ ghost use Rattle.mem_model.specs.Memory.{new_memory, size_of};
 ghost use Rattle.mem_model.specs.Hunk.{bytes_above};
 ghost use Rattle.mem_model.specs.Places.{hunk_need};
 ghost use Rattle.mem_model.specs.Plain.{IsAt};
-ghost use Rattle.mem_model.specs.Laid.{IsMultiple};
+ghost use Rattle.mem_model.specs.Laid.{IsMultiple, AreLowBlocks};
 
 use crate::answers::{Place, RoomError, StoreStart};
 use crate::cells::{CacheCell, HunkCell, ZoneCell, add};
@@ -50,18 +50,23 @@ fn hunk_need(size: u64) -> u64
     16 + size.div_ceil(16) * 16
 }
 
-// The position of the block above the zone whose payload is at this place.
-fn position_at(cells: &[HunkCell], place: u32) -> usize
+// The position of the block above the zone whose payload is at this place. It looks from the newest, which is asked
+// for the most.
+fn position_at(cells: &[HunkCell], used: u32, place: u32) -> usize
     requires there { IsSome (bytes_above cells.now place) }
-    requires small { size_of cells.now ≤ 2 ^ 26 }
+    requires used { used ≡ size_of cells.now }
+    requires small { used ≤ 2 ^ 26 }
+    requires laid { AreLowBlocks cells.now }
     ensures { IsAt cells.now place result }
 {
-    let mut start = cells[0].size();
-    for i in 1..cells.len() {
-        if start + 16 == place {
+    let mut end = used;
+    let mut i = cells.len();
+    while 1 < i {
+        i -= 1;
+        end -= cells[i].size();
+        if end + 16 == place {
             return i;
         }
-        start += cells[i].size();
     }
     unreachable!()
 }
@@ -130,11 +135,11 @@ impl Store for PlainStore {
     }
 
     fn low_bytes(&self, place: Place) -> &[u8] {
-        self.low[position_at(&self.low, place.0)].bytes()
+        self.low[position_at(&self.low, self.low_used, place.0)].bytes()
     }
 
     fn low_bytes_mut(&mut self, place: Place) -> &mut [u8] {
-        let at = position_at(&self.low, place.0);
+        let at = position_at(&self.low, self.low_used, place.0);
         self.low[at].bytes_mut()
     }
 

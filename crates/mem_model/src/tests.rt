@@ -11,7 +11,10 @@ fn a_store_holds_its_zone(rt: HostRuntime) -> Result<(), Fail> {
     let small = PlainStore::create(rt.alloc(), 4096, 4096, 8);
     assert!(rt; matches!(small, Err(StoreStart::TooSmall)));
     let full = PlainStore::create(rt.alloc(), 4112, 4096, 8)?;
-    assert_eq!(rt; (full.size(), full.low_mark(), full.room()), (4112, 4112, 0));
+    assert_eq!(rt;
+        (full.size(), full.low_mark(), full.room()),
+        (4112, 4112, 0)
+    );
     Ok(())
 }
 
