@@ -1,0 +1,171 @@
+-- Laws of the operations, over the definitions alone: what callers of a store need.
+use Rattle.std.proofs.Common.{◌≡◌, ◌≢◌, ℕ, ◌+◌, ◌-◌, ◌≤◌, List, [], ◌∷◌, ◌++◌, Some, Result, Ok, Err, Bool, true, false, ltb, eqb, cond, length, refl, sym, ap, ◌∙◌, arith, replicate, ◌⊎◌, inl, inr, if◌then◌else◌}
+use Rattle.std.specs.List.{AllByRecursion}
+use Rattle.std.proofs.lemmas.Bool.Decides.{eqb_tells}
+use Rattle.std.proofs.lemmas.Bool.{ne_eqb, eq-eqb}
+use Rattle.std.proofs.lemmas.List.{length-replicate}
+use Rattle.mem_model.specs.Event.{Event, Event.LowAlloc, Shortage}
+use Rattle.mem_model.specs.Blocks.{HunkBlock}
+use Rattle.mem_model.specs.Memory.{Memory, room, low_used, size_of}
+use Rattle.mem_model.specs.Places.{hunk_need, round_up}
+use Rattle.mem_model.specs.Hunk.{hunk_block, with_low, over, bytes_from, with_bytes_from, bytes_above, with_bytes_above, low_bytes, with_low_bytes}
+use Rattle.mem_model.specs.Answer.{Answered, noted, with_event}
+use Rattle.mem_model.specs.Laid.{Laid, IsHunkBlock, AreLowBlocks}
+use Rattle.mem_model.specs.Operations.{low_alloc, shortage}
+use Rattle.mem_model.proofs.Laying.{over_same, Laid-with_low_bytes}
+
+-- an event is no other part of the memory
+low-with_event : (m : Memory) (event : Event) → (with_event m event).low ≡ m.low
+low-with_event m event = elim (ltb (length m.events) m.event_room) as (λ t. (cond t (record m { events = m.events ++ event ∷ [] }) m).low ≡ m.low) [ true ↦ refl | false ↦ refl ]
+
+size-with_event : (m : Memory) (event : Event) → (with_event m event).size ≡ m.size
+size-with_event m event = elim (ltb (length m.events) m.event_room) as (λ t. (cond t (record m { events = m.events ++ event ∷ [] }) m).size ≡ m.size) [ true ↦ refl | false ↦ refl ]
+
+-- what an allocation gives, by whether the room is too small
+low_given : Memory → ℕ → List ℕ → Bool → Answered (Result ℕ Shortage)
+low_given m size name short =
+    if short then record { answer = Err (shortage m (hunk_need size)); after = m } else record { answer = Ok (low_used m + 16); after = with_low m (hunk_block (hunk_need size) name) }
+
+-- the low list after an allocation
+pub low-low_alloc : (m : Memory) (size place : ℕ) (name : List ℕ) → (low_alloc m size name).answer ≡ Ok place →
+    ((low_alloc m size name).after.low ≡ m.low ++ hunk_block (hunk_need size) name ∷ []) × (place ≡ low_used m + 16)
+unfolding low_alloc with_low low_given
+low-low_alloc m size place name =
+    elim (ltb (room m) (hunk_need size)) as (λ short. (low_given m size name short).answer ≡ Ok place → ((noted (low_given m size name short) (LowAlloc size)).after.low ≡ m.low ++ hunk_block (hunk_need size) name ∷ []) × (place ≡ low_used m + 16)) [
+      | true ↦ λ h. absurd (cc)
+      | false ↦ λ h. (low-with_event (with_low m (hunk_block (hunk_need size) name)) _, cc)
+    ]
+
+-- A refused allocation tells its need and the room, and leaves the low list.
+pub low_alloc-refusal : (m : Memory) (size : ℕ) (name : List ℕ) (told : Shortage) → (low_alloc m size name).answer ≡ Err told →
+    (told ≡ shortage m (hunk_need size)) × ((low_alloc m size name).after.low ≡ m.low)
+unfolding low_alloc with_low low_given
+low_alloc-refusal m size name told =
+    elim (ltb (room m) (hunk_need size)) as (λ short. (low_given m size name short).answer ≡ Err told → (told ≡ shortage m (hunk_need size)) × ((noted (low_given m size name short) (LowAlloc size)).after.low ≡ m.low)) [
+      | true ↦ λ h. (cc, low-with_event m _)
+      | false ↦ λ h. absurd (cc)
+    ]
+
+-- An allocation adds a block or leaves the list.
+low-low_alloc_cases : (m : Memory) (size : ℕ) (name : List ℕ) →
+    ((low_alloc m size name).after.low ≡ m.low) ⊎ ((low_alloc m size name).after.low ≡ m.low ++ hunk_block (hunk_need size) name ∷ [])
+unfolding low_alloc with_low low_given
+low-low_alloc_cases m size name =
+    elim (ltb (room m) (hunk_need size)) as (λ short. ((noted (low_given m size name short) (LowAlloc size)).after.low ≡ m.low) ⊎ ((noted (low_given m size name short) (LowAlloc size)).after.low ≡ m.low ++ hunk_block (hunk_need size) name ∷ [])) [
+      | true ↦ inl (low-with_event m _)
+      | false ↦ inr (low-with_event (with_low m (hunk_block (hunk_need size) name)) _)
+    ]
+
+-- The arena keeps its size.
+pub size-low_alloc : (m : Memory) (size : ℕ) (name : List ℕ) → (low_alloc m size name).after.size ≡ m.size
+unfolding low_alloc with_low low_given
+size-low_alloc m size name =
+    elim (ltb (room m) (hunk_need size)) as (λ short. (noted (low_given m size name short) (LowAlloc size)).after.size ≡ m.size) [
+      | true ↦ size-with_event m _
+      | false ↦ size-with_event (with_low m (hunk_block (hunk_need size) name)) _
+    ]
+
+bytes_from-append : (start : ℕ) (blocks others : List HunkBlock) (place : ℕ) (bytes : List ℕ) → bytes_from start blocks place ≡ Some bytes → bytes_from start (blocks ++ others) place ≡ Some bytes
+bytes_from-append start [] others place bytes h = absurd (cc)
+bytes_from-append start (b ∷ bs) others place bytes h =
+    elim (eqb (start + 16) place) as (λ t. cond t (Some b.bytes) (bytes_from (start + b.size) bs place) ≡ Some bytes → cond t (Some b.bytes) (bytes_from (start + b.size) (bs ++ others) place) ≡ Some bytes) [
+      | true ↦ λ e. e
+      | false ↦ λ e. bytes_from-append (start + b.size) bs others place bytes e
+    ] h
+
+bytes_above-append : (low others : List HunkBlock) (place : ℕ) (bytes : List ℕ) → bytes_above low place ≡ Some bytes → bytes_above (low ++ others) place ≡ Some bytes
+bytes_above-append [] others place bytes h = absurd (cc)
+bytes_above-append (zone ∷ blocks) others place bytes h = bytes_from-append zone.size blocks others place bytes h
+
+-- An allocation leaves the bytes of each other block.
+pub low_bytes-low_alloc : (m : Memory) (size : ℕ) (name : List ℕ) (place : ℕ) (bytes : List ℕ) → low_bytes m place ≡ Some bytes → low_bytes (low_alloc m size name).after place ≡ Some bytes
+unfolding low_bytes
+low_bytes-low_alloc m size name place bytes h =
+    elim (low-low_alloc_cases m size name) [
+      | inl same ↦ ap (λ low. bytes_above low place) same ∙ h
+      | inr more ↦ ap (λ low. bytes_above low place) more ∙ bytes_above-append m.low (hunk_block (hunk_need size) name ∷ []) place bytes h
+    ]
+
+-- the block after the others is that of the place behind them
+new_from : (start : ℕ) (blocks : List HunkBlock) (b : HunkBlock) (place : ℕ) → AllByRecursion IsHunkBlock blocks → place ≡ (start + size_of blocks) + 16 → bytes_from start (blocks ++ b ∷ []) place ≡ Some b.bytes
+new_from start [] b place p e = rw (eq-eqb (start + 16) place (omega arith))
+new_from start (c ∷ cs) b place p e =
+    rw (ne_eqb (start + 16) place (λ same. absurd (omega (arith, p.0.header)))) (new_from (start + c.size) cs b place p.1 (omega arith))
+
+new_above : (low : List HunkBlock) (b : HunkBlock) (place : ℕ) → AreLowBlocks low → place ≡ size_of low + 16 → bytes_above (low ++ b ∷ []) place ≡ Some b.bytes
+new_above [] b place p e = absurd p
+new_above (zone ∷ blocks) b place p e = new_from zone.size blocks b place p.1 e
+
+-- The new block has zero bytes.
+pub low_bytes-new : (m : Memory) (size place : ℕ) (name : List ℕ) → Laid m → (low_alloc m size name).answer ≡ Ok place → low_bytes (low_alloc m size name).after place ≡ Some (replicate (round_up size 16) 0)
+unfolding low_bytes
+low_bytes-new m size place name laid h =
+    let given = low-low_alloc m size place name h in
+    ap (λ low. bytes_above low place) given.0 ∙ new_above m.low _ place laid.low given.1
+    ∙ ap (λ n. Some (replicate n 0)) (let same : hunk_need size - 16 ≡ round_up size 16 = omega arith in same)
+
+-- Its length is that of the request, rounded up.
+pub length-new : (m : Memory) (size place : ℕ) (name bytes : List ℕ) → Laid m → (low_alloc m size name).answer ≡ Ok place → low_bytes (low_alloc m size name).after place ≡ Some bytes → length bytes ≡ round_up size 16
+length-new m size place name bytes laid h there =
+    let new : Some (replicate (round_up size 16) 0) ≡ Some bytes = sym (low_bytes-new m size place name laid h) ∙ there in
+    let same : replicate (round_up size 16) 0 ≡ bytes = cc in
+    sym (ap length same) ∙ length-replicate (round_up size 16) 0
+
+written_from : (start : ℕ) (blocks : List HunkBlock) (place : ℕ) (old bytes : List ℕ) → bytes_from start blocks place ≡ Some old → bytes_from start (with_bytes_from start blocks place bytes) place ≡ Some (over old bytes)
+written_from start [] place old bytes h = absurd (cc)
+written_from start (b ∷ bs) place old bytes h =
+    elim (eqb_tells (start + 16) place) [
+      | inl at ↦ rw (at.0, at.0) (let here : Some b.bytes ≡ Some old = rw at.0 at h in let same : b.bytes ≡ old = cc in ap (λ w. Some (over w bytes)) same)
+      | inr off ↦ rw (off.0, off.0) (let there : bytes_from (start + b.size) bs place ≡ Some old = rw off.0 at h in written_from (start + b.size) bs place old bytes there)
+    ]
+
+written_above : (low : List HunkBlock) (place : ℕ) (old bytes : List ℕ) → bytes_above low place ≡ Some old → bytes_above (with_bytes_above low place bytes) place ≡ Some (over old bytes)
+written_above [] place old bytes h = absurd (cc)
+written_above (zone ∷ blocks) place old bytes h = written_from zone.size blocks place old bytes h
+
+-- What is written is there.
+pub low_bytes-written : (m : Memory) (place : ℕ) (old bytes : List ℕ) → low_bytes m place ≡ Some old → length bytes ≡ length old → low_bytes (with_low_bytes m place bytes) place ≡ Some bytes
+unfolding low_bytes with_low_bytes
+low_bytes-written m place old bytes h same = written_above m.low place old bytes h ∙ ap Some (over_same old bytes same)
+
+elsewhere_from : (start : ℕ) (blocks : List HunkBlock) (place other : ℕ) (bytes : List ℕ) → other ≢ place → bytes_from start (with_bytes_from start blocks place bytes) other ≡ bytes_from start blocks other
+elsewhere_from start [] place other bytes h = refl
+elsewhere_from start (b ∷ bs) place other bytes h =
+    elim (eqb_tells (start + 16) place) [
+      | inl at ↦ rw (at.0, ne_eqb (start + 16) other (λ e. h (sym e ∙ at.1))) refl
+      | inr off ↦ rw off.0 (ap (cond (eqb (start + 16) other) (Some b.bytes)) (elsewhere_from (start + b.size) bs place other bytes h))
+    ]
+
+elsewhere_above : (low : List HunkBlock) (place other : ℕ) (bytes : List ℕ) → other ≢ place → bytes_above (with_bytes_above low place bytes) other ≡ bytes_above low other
+elsewhere_above [] place other bytes h = refl
+elsewhere_above (zone ∷ blocks) place other bytes h = elsewhere_from zone.size blocks place other bytes h
+
+-- A write leaves the bytes of each other block.
+pub low_bytes-elsewhere : (m : Memory) (place other : ℕ) (bytes : List ℕ) → other ≢ place → low_bytes (with_low_bytes m place bytes) other ≡ low_bytes m other
+unfolding low_bytes with_low_bytes
+low_bytes-elsewhere m place other bytes h = elsewhere_above m.low place other bytes h
+
+inside_from : (start : ℕ) (blocks : List HunkBlock) (place : ℕ) (bytes : List ℕ) → AllByRecursion IsHunkBlock blocks → bytes_from start blocks place ≡ Some bytes → place + length bytes ≤ start + size_of blocks
+inside_from start [] place bytes p h = absurd (cc)
+inside_from start (b ∷ bs) place bytes p h =
+    elim (eqb_tells (start + 16) place) [
+      | inl at ↦ let here : Some b.bytes ≡ Some bytes = rw at.0 at h in let same : b.bytes ≡ bytes = cc in omega (arith, p.0.header, p.0.bytes, ap length same, at.1)
+      | inr off ↦ let there : bytes_from (start + b.size) bs place ≡ Some bytes = rw off.0 at h in omega (arith, inside_from (start + b.size) bs place bytes p.1 there)
+    ]
+
+inside_above : (low : List HunkBlock) (place : ℕ) (bytes : List ℕ) → AreLowBlocks low → bytes_above low place ≡ Some bytes → place + length bytes ≤ size_of low
+inside_above [] place bytes p h = absurd p
+inside_above (zone ∷ blocks) place bytes p h = inside_from zone.size blocks place bytes p.1 h
+
+-- A low block's bytes lie below the low hunk's end.
+pub low_bytes-inside : (m : Memory) (place : ℕ) (bytes : List ℕ) → Laid m → low_bytes m place ≡ Some bytes → place + length bytes ≤ low_used m
+unfolding low_bytes
+low_bytes-inside m place bytes laid h = inside_above m.low place bytes laid.low h
+
+-- A new block's place is that of no block before.
+pub low_place_apart : (m : Memory) (size place other : ℕ) (name bytes : List ℕ) → Laid m → (low_alloc m size name).answer ≡ Ok place → low_bytes m other ≡ Some bytes → other ≢ place
+low_place_apart m size place other name bytes laid h there same =
+    omega (arith, (low-low_alloc m size place name h).1, low_bytes-inside m other bytes laid there)
+
+-- for callers: `#[tactic(auto, using(mem_model::proofs::Laws::store_laws))]`
+pub ruleset store_laws = (low_place_apart, low_bytes-low_alloc, low_bytes-new, length-new, low_bytes-written, low_bytes-elsewhere, Laid-with_low_bytes)

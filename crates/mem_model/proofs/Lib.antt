@@ -1,0 +1,5 @@
+mod Examples
+pub mod Positions
+pub mod Laying
+pub mod Calling
+pub mod Laws

@@ -1,0 +1,15 @@
+use Rattle.std.proofs.Common.{arith, refl}
+use Rattle.mem_model.proofs.Laying.{Laid-new_memory}
+use Rattle.mem_model.proofs.plain.PlainStore.create.Goals as goal
+
+pub invariant_of-result : goal.invariant_of-result
+invariant_of-result c =
+    let low = c.in_ok-add.ensures.ok in
+    let zone = c.in_ok-add-2.ensures.ok in
+    record {
+      laid = rw (low, zone, c.new-low.ensures.items, c.in_ok-bare.ensures, c.new-blocks.ensures.items, c.free.ensures, c.new.ensures.items, c.new-2.ensures.items, c.new-3.ensures.items)
+          (Laid-new_memory c.args.size c.args.zone c.args.users c.requires.zone.0 c.requires.zone.1 c.requires.size.1 (omega arith));
+      low_used = rw (low, c.new-low.ensures.items, c.in_ok-bare.ensures) (omega arith);
+      high_used = rw c.new.ensures.items refl;
+      uncached = c.new-2.ensures.items;
+    }

@@ -1,0 +1,38 @@
+use Rattle.std.proofs.Common.{◌≡◌, ◌∙◌, ◌≤◌, ◌∷◌, [], ap, sym, arith, refl}
+use Rattle.mem_model.specs.Memory.{Memory, room}
+use Rattle.mem_model.specs.Places.{hunk_need}
+use Rattle.mem_model.specs.PlainState.{state_of}
+use Rattle.mem_model.specs.Hunk.{hunk_block}
+use Rattle.mem_model.proofs.Calling.{low_alloc_refused, low_alloc_uncached}
+use Rattle.mem_model.proofs.Laying.{Laid-with_low_uncached, IsHunkBlock-hunk_block, size_of-append}
+use Rattle.mem_model.proofs.plain.PlainStoreStore.low_alloc.Goals as goal
+
+pub returns-then-room-need-clause-gives : goal.returns-then-room-need-clause-gives
+returns-then-room-need-clause-gives c =
+    let quiet = ap (λ (m : Memory). m.event_room) (sym c.self.view_is) in
+    rw (c.from-room.ensures, c.room.ensures.room, c.hunk_need-need.ensures)
+    (low_alloc_refused c.args.self.now c.args.size c.args.name.now quiet (omega (arith, c.from-room.ensures, c.room.ensures.room, c.hunk_need-need.ensures)))
+
+-- the block fits in the room of the memory that the fields stand for
+fits : (c : goal.After-self-1) → hunk_need c.args.size ≤ room (state_of c.self.inside)
+fits c =
+    let left : c.from-room.result ≡ room (state_of c.self.inside) = c.from-room.ensures ∙ c.room.ensures.room ∙ ap room (sym c.self.view_is) in
+    omega (arith, left, c.hunk_need-need.ensures)
+
+pub invariant_of-self-2 : goal.invariant_of-self-2
+invariant_of-self-2 c = record {
+  laid = rw (c.in_ok-add.ensures.ok, c.in_ok-cell.ensures, c.hunk_need-need.ensures)
+      (Laid-with_low_uncached (state_of c.self.inside) (hunk_block (hunk_need c.args.size) c.args.name.now) c.self.invariant.laid (IsHunkBlock-hunk_block c.args.size c.args.name.now c.requires.name) (fits c) c.self.invariant.uncached);
+  low_used = rw (c.in_ok-add.ensures.ok, c.in_ok-cell.ensures, c.hunk_need-need.ensures)
+      (omega (arith, size_of-append c.self.inside.low.items (hunk_block (hunk_need c.args.size) c.args.name.now ∷ []), c.self.invariant.low_used));
+  high_used = c.self.invariant.high_used;
+  uncached = c.self.invariant.uncached;
+}
+
+pub returns-clause-gives : goal.returns-clause-gives
+returns-clause-gives c =
+    rw (c.in_ok-add.ensures.ok, c.in_ok-cell.ensures, c.hunk_need-need.ensures, ← c.self.view_is, c.self.invariant.low_used)
+    (low_alloc_uncached (state_of c.self.inside) c.args.size c.args.name.now refl c.self.invariant.uncached (fits c))
+
+pub returns-clause-laid : goal.returns-clause-laid
+returns-clause-laid c = (invariant_of-self-2 c).laid

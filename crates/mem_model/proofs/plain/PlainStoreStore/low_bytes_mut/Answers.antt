@@ -1,0 +1,43 @@
+use Rattle.std.proofs.Common.{◌≡◌, Some, ap, sym, arith, List, refl}
+use Rattle.std.specs.Prelude.{IsSome, slice_get}
+use Rattle.std.proofs.lemmas.Option.{slice_get_read}
+use Rattle.mem_model.specs.Blocks.{HunkBlock}
+use Rattle.mem_model.specs.Plain.{IsAt}
+use Rattle.mem_model.specs.PlainState.{state_of}
+use Rattle.mem_model.specs.Hunk.{low_bytes, with_low_bytes}
+use Rattle.mem_model.proofs.Laying.{Laid-with_low_bytes, size_of-with_bytes_above}
+use Rattle.mem_model.proofs.plain.PlainStoreStore.low_bytes_mut.Goals as goal
+use Rattle.mem_model.proofs.plain.PlainStoreStore.low_bytes_mut.Goals.{After-bytes_mut}
+
+pub position_at-at-requires-clause-there : goal.position_at-at-requires-clause-there
+unfolding low_bytes
+position_at-at-requires-clause-there c =
+    let here : IsSome (low_bytes c.args.self.now c.args.place.0) = c.requires in
+    rw c.deref.ensures.value (rw (← c.self.view_is) at here)
+
+-- the position found is that of the block that is lent
+at_lent : (c : After-bytes_mut) → IsAt c.self.inside.low.items c.args.place.0 c.position_at-at.result
+at_lent c = rw c.deref.ensures.value at c.position_at-at.ensures
+
+read_lent : (c : After-bytes_mut) → slice_get c.self.inside.low.items c.position_at-at.result ≡ Some c.index_mut.result.now
+read_lent c =
+    slice_get_read c.self.inside.low.items _ c.position_at-at.result c.index_mut.result.now c.self.inside.low.ok.0 (omega (arith, (at_lent c).inside, c.self.inside.low.ok.0)) c.index_mut.ensures.value
+
+pub invariant_of-self-lent : goal.invariant_of-self-lent
+unfolding with_low_bytes
+invariant_of-self-lent c = λ w.
+    let written = (at_lent c).writes c.index_mut.result.now w (read_lent c) in
+    record {
+      laid = rw (← written) (Laid-with_low_bytes (state_of c.self.inside) c.args.place.0 w c.self.invariant.laid);
+      low_used = rw (← written, size_of-with_bytes_above c.self.inside.low.items c.args.place.0 w) c.self.invariant.low_used;
+      high_used = c.self.invariant.high_used;
+      uncached = c.self.invariant.uncached;
+    }
+
+pub returns : goal.returns
+unfolding low_bytes with_low_bytes
+returns c =
+    let d = (goal.at.returns c).After-bytes_mut in (
+      (refl, λ w. rw (← c.self.view_is) (ap (λ (low : List HunkBlock). record (state_of c.self.inside) { low = low }) (sym ((at_lent d).writes c.index_mut.result.now w (read_lent d))))),
+      record { writes_back = tt; shows = rw (← c.self.view_is, c.bytes_mut.ensures.shows) ((at_lent d).reads c.index_mut.result.now (read_lent d)); laid = rw (← c.self.view_is) c.self.invariant.laid },
+    )

@@ -1,0 +1,13 @@
+pub mod Blocks
+pub mod Event
+pub mod Memory
+pub mod Answer
+pub mod Places
+pub mod Cache
+pub mod Zone
+pub mod Hunk
+pub mod Operations
+pub mod Laid
+pub mod Told
+pub mod Plain
+pub mod PlainState

@@ -1,0 +1,26 @@
+-- The memory that a plain store stands for, and what holds of its fields.
+use Rattle.std.specs.Prelude.{◌≡◌, []}
+use Rattle.mem_model.specs.Memory.{Memory, size_of}
+use Rattle.mem_model.specs.Laid.{Laid}
+use Rattle.mem_model.specs.declared.plain.PlainStore.TheInside.{Inside}
+
+-- A plain store has no room for events.
+abbrev pub state_of : Inside → Memory
+state_of s = record {
+  size = s.size;
+  users = s.users;
+  low = s.low.items;
+  high = s.high.items;
+  temp = s.temp;
+  zone = record { blocks = s.zone.items; rover = s.rover };
+  cache = record { blocks = s.cache.items; recency = s.recency.items };
+  event_room = 0;
+  events = [];
+}
+
+-- Its memory is laid out, the two sums are those of the blocks, and the cache is empty as long as no call fills it.
+pub record IsPlain (s : Inside) : Type 0 where
+  pub laid : Laid (state_of s)
+  pub low_used : s.low_used ≡ size_of s.low.items
+  pub high_used : s.high_used ≡ size_of s.high.items
+  pub uncached : s.cache.items ≡ []

@@ -1,0 +1,11 @@
+-- What a call's result tells of the operation's answer: none where the call ran out of memory.
+use Rattle.std.specs.Prelude.{ℕ, Option, Some, None, Result, Ok, Err}
+use Rattle.mem_model.specs.Event.{Shortage}
+use Rattle.mem_model.specs.declared.answers.Place.{Place}
+use Rattle.mem_model.specs.declared.answers.RoomError.{RoomError}
+use Rattle.mem_model.specs.declared.answers.RoomError.TheVariants as room_error
+
+abbrev pub room_answer : Result Place RoomError → Option (Result ℕ Shortage)
+room_answer (Ok place) = Some (Ok place.0)
+room_answer (Err (room_error.NoRoom asked room)) = Some (Err (record { asked = asked; room = room }))
+room_answer (Err room_error.OutOfMemory) = None

@@ -1,0 +1,45 @@
+//! What the calls of a store answer.
+
+use std::alloc::AllocError;
+
+/// Where a block's payload begins: an offset in the arena, in bytes.
+#[derive(Clone, Copy, Debug, PartialEq, Eq)]
+pub struct Place(pub u32);
+
+/// Why a hunk gave no block.
+#[derive(Clone, Copy, Debug, PartialEq, Eq)]
+pub enum RoomError {
+    /// The block needs `asked` bytes, its header included, and there are `room`.
+    NoRoom { asked: u64, room: u64 },
+    OutOfMemory,
+}
+
+/// Why a store was not made.
+#[derive(Clone, Copy, Debug, PartialEq, Eq)]
+pub enum StoreStart {
+    /// The arena does not hold the zone's block.
+    TooSmall,
+    OutOfMemory,
+}
+
+impl From<AllocError> for RoomError {
+    ghost use Rattle.mem_model.specs.declared.answers.RoomError.{RoomError};
+    ghost use Rattle.std.specs.Prelude.{◌≡◌};
+
+    ghost from_gives = { λ _ e. e ≡ RoomError.OutOfMemory };
+
+    fn from(_error: AllocError) -> Self {
+        RoomError::OutOfMemory
+    }
+}
+
+impl From<AllocError> for StoreStart {
+    ghost use Rattle.mem_model.specs.declared.answers.StoreStart.{StoreStart};
+    ghost use Rattle.std.specs.Prelude.{◌≡◌};
+
+    ghost from_gives = { λ _ e. e ≡ StoreStart.OutOfMemory };
+
+    fn from(_error: AllocError) -> Self {
+        StoreStart::OutOfMemory
+    }
+}

@@ -1,0 +1,131 @@
+//! The blocks of a plain store, each seen as the block that it stands for.
+
+ghost use Rattle.std.specs.Prelude.{◌≡◌, ◌≤◌, ◌++◌, ◌∷◌, [], IfOk, OnOk, OnErr, false};
+ghost use Rattle.std.specs.Borrow.{sem, Lends, u8 as byte, Array};
+ghost use Rattle.mem_model.specs.Hunk.{with_bytes, hunk_block};
+ghost use Rattle.mem_model.specs.contracts.cells.HunkCell.{the_row as hunk_row};
+
+use std::alloc::{AllocError, Global};
+use std::marker::Model;
+
+// A push whose failure says only that memory ran out.
+pub fn add<T: Drop>(list: &mut Vec<T>, item: T) -> Result<(), AllocError>
+    ensures ok { OnOk result (list.new.items ≡ list.old.items ++ item ∷ []) }
+    ensures err { OnErr result (list.new.items ≡ list.old.items) }
+{
+    list.push(item)?;
+    Ok(())
+}
+
+/// A block of a hunk.
+#[derive(Drop)]
+pub struct HunkCell {
+    size: u32,
+    name: Vec<u8>,
+    bytes: Vec<u8>,
+}
+
+impl Model for HunkCell {
+    ghost use Rattle.mem_model.specs.Blocks.{HunkBlock};
+
+    ghost Value = { HunkBlock };
+
+    ghost view = { λ c. record { size = c.size; name = c.name.items; bytes = c.bytes.items } };
+}
+
+impl HunkCell {
+    /// A block of `size` bytes, its header of 16 included, with zero bytes and the first 8 bytes of a name.
+    pub fn zeroed(alloc: Global, size: u32, name: &[u8]) -> Result<HunkCell, AllocError>
+        requires { 16 ≤ size }
+        ensures { IfOk result (λ c. c ≡ hunk_block size name.now) }
+    {
+        let bytes = vec![in alloc; 0; (size - 16) as usize]?;
+        let mut front = Vec::new(alloc);
+        front.extend_from_slice(&name[..name.len().min(8)])?;
+        Ok(HunkCell {
+            size,
+            name: front,
+            bytes,
+        })
+    }
+
+    /// A block with a whole name and no bytes of its own.
+    pub fn bare(alloc: Global, size: u32, name: &[u8]) -> Result<HunkCell, AllocError>
+        ensures { IfOk result (λ c. c ≡ record { size = size; name = name.now; bytes = [] }) }
+    {
+        let mut whole = Vec::new(alloc);
+        whole.extend_from_slice(name)?;
+        Ok(HunkCell {
+            size,
+            name: whole,
+            bytes: Vec::new(alloc),
+        })
+    }
+
+    /// The size, the header of 16 included.
+    pub fn size(&self) -> u32
+        ensures { result ≡ self.now.size }
+    {
+        self.size
+    }
+
+    pub fn bytes(&self) -> &[u8]
+        ensures { result.now ≡ self.now.bytes }
+    {
+        self.bytes.as_slice()
+    }
+
+    pub fn bytes_mut(&mut self) -> &mut [u8]
+        ensures* writes_back { sem 𝓛 (Lends hunk_row (Array byte 0) self.entry result (with_bytes self.old)) }
+        ensures shows { result.now ≡ self.old.bytes }
+    {
+        self.bytes.as_mut_slice()
+    }
+}
+
+/// A block of the zone.
+#[derive(Drop)]
+pub struct ZoneCell {
+    size: u32,
+    used: bool,
+    bytes: Vec<u8>,
+}
+
+impl Model for ZoneCell {
+    ghost use Rattle.mem_model.specs.Blocks.{ZoneBlock};
+
+    ghost Value = { ZoneBlock };
+
+    ghost view = { λ c. record { size = c.size; used = c.used; bytes = c.bytes.items } };
+}
+
+impl ZoneCell {
+    /// A free block.
+    pub fn free(alloc: Global, size: u32) -> ZoneCell
+        ensures { result ≡ record { size = size; used = false; bytes = [] } }
+    {
+        ZoneCell {
+            size,
+            used: false,
+            bytes: Vec::new(alloc),
+        }
+    }
+}
+
+/// A block of the cache.
+#[derive(Drop)]
+pub struct CacheCell {
+    place: u32,
+    size: u32,
+    user: u32,
+    name: Vec<u8>,
+    bytes: Vec<u8>,
+}
+
+impl Model for CacheCell {
+    ghost use Rattle.mem_model.specs.Blocks.{CacheBlock};
+
+    ghost Value = { CacheBlock };
+
+    ghost view = { λ c. record { place = c.place; size = c.size; user = c.user; name = c.name.items; bytes = c.bytes.items } };
+}

@@ -1,0 +1,15 @@
+//! The memory of the machine: one arena with a hunk that grows at each end, and a zone and a cache inside.
+//!
+//! `specs/` says what a memory is and what each operation gives, and the trait `Store` is met by whatever keeps one.
+#![tactic(auto)]
+
+mod answers;
+mod cells;
+mod plain;
+mod store;
+#[cfg(test)]
+mod tests;
+
+pub use answers::{Place, RoomError, StoreStart};
+pub use plain::PlainStore;
+pub use store::Store;

@@ -1,0 +1,155 @@
+//! A store over vectors.
+
+ghost use Rattle.std.specs.Prelude.{◌≡◌, ◌<◌, ◌≤◌, ◌^◌, ◌↔◌, IfOk, Err, IsSome};
+ghost use Rattle.mem_model.specs.Memory.{new_memory, size_of};
+ghost use Rattle.mem_model.specs.Hunk.{bytes_above};
+ghost use Rattle.mem_model.specs.Places.{hunk_need};
+ghost use Rattle.mem_model.specs.Plain.{IsAt};
+ghost use Rattle.mem_model.specs.Laid.{IsMultiple, AreLowBlocks};
+
+use crate::answers::{Place, RoomError, StoreStart};
+use crate::cells::{CacheCell, HunkCell, ZoneCell, add};
+use crate::store::Store;
+use std::alloc::Global;
+use std::marker::Model;
+
+/// A store that keeps each block in vectors of its own. It may run out of memory, and keeps no events.
+#[derive(Drop)]
+pub struct PlainStore {
+    alloc: Global,
+    size: u32,
+    users: u32,
+    low: Vec<HunkCell>,
+    low_used: u32,
+    high: Vec<HunkCell>,
+    high_used: u32,
+    temp: Option<u32>,
+    zone: Vec<ZoneCell>,
+    rover: usize,
+    cache: Vec<CacheCell>,
+    recency: Vec<u32>,
+}
+
+impl Model for PlainStore {
+    ghost use Rattle.mem_model.specs.Memory.{Memory};
+
+    ghost Value = { Memory };
+
+    ghost use Rattle.mem_model.specs.PlainState.{state_of, IsPlain};
+
+    ghost view = { state_of };
+
+    ghost invariant = { IsPlain };
+}
+
+// What a hunk block with a payload of this size takes.
+fn hunk_need(size: u64) -> u64
+    requires { size ≤ 2 ^ 62 }
+    ensures { result ≡ hunk_need size }
+{
+    16 + size.div_ceil(16) * 16
+}
+
+// The position of the block above the zone whose payload is at this place. It looks from the newest, which is asked
+// for the most.
+fn position_at(cells: &[HunkCell], used: u32, place: u32) -> usize
+    requires there { IsSome (bytes_above cells.now place) }
+    requires used { used ≡ size_of cells.now }
+    requires small { used ≤ 2 ^ 26 }
+    requires laid { AreLowBlocks cells.now }
+    ensures { IsAt cells.now place result }
+{
+    let mut end = used;
+    let mut i = cells.len();
+    while 1 < i {
+        i -= 1;
+        end -= cells[i].size();
+        if end + 16 == place {
+            return i;
+        }
+    }
+    unreachable!()
+}
+
+impl PlainStore {
+    /// A store of `size` bytes with a zone of `zone` bytes, all free, and an empty cache for this many users.
+    ///
+    /// `TooSmall` comes where the zone's block, with its header of 16 bytes, exceeds the size, and before any memory
+    /// is taken.
+    pub fn create(alloc: Global, size: u32, zone: u32, users: u32) -> Result<PlainStore, StoreStart>
+        requires size { (IsMultiple 16 size) × (size ≤ 2 ^ 26) }
+        requires zone { (IsMultiple 16 zone) × (64 ≤ zone) × (zone ≤ 2 ^ 26) }
+        requires users { users ≤ 1024 }
+        ensures ok { IfOk result (λ store. store ≡ new_memory size zone users 0) }
+        ensures too_small { (result ≡ Err StoreStart.TooSmall) ↔ (size < hunk_need zone) }
+    {
+        if size < zone + 16 {
+            return Err(StoreStart::TooSmall);
+        }
+        let mut low = Vec::new(alloc);
+        add(&mut low, HunkCell::bare(alloc, zone + 16, b"zone")?)?;
+        let mut blocks = Vec::new(alloc);
+        add(&mut blocks, ZoneCell::free(alloc, zone - 32))?;
+        Ok(PlainStore {
+            alloc,
+            size,
+            users,
+            low,
+            low_used: zone + 16,
+            high: Vec::new(alloc),
+            high_used: 0,
+            temp: None,
+            zone: blocks,
+            rover: 0,
+            cache: Vec::new(alloc),
+            recency: Vec::new(alloc),
+        })
+    }
+}
+
+impl Store for PlainStore {
+    ghost use Rattle.std.specs.Prelude.{false, refl};
+    ghost use Rattle.mem_model.specs.Hunk.{with_low_bytes};
+
+    ghost state = { λ m. m };
+
+    ghost frugal = { false };
+
+    ghost low_written = { with_low_bytes };
+
+    fn low_alloc(&mut self, size: u64, name: &[u8]) -> Result<Place, RoomError> {
+        let need = hunk_need(size);
+        let room = u64::from(self.room());
+        if room < need {
+            return Err(RoomError::NoRoom { asked: need, room });
+        }
+        let place = Place(self.low_used + 16);
+        let cell = HunkCell::zeroed(self.alloc, need as u32, name)?;
+        add(&mut self.low, cell)?;
+        self.low_used += need as u32;
+        Ok(place)
+    }
+
+    fn low_mark(&self) -> u32 {
+        self.low_used
+    }
+
+    fn low_bytes(&self, place: Place) -> &[u8] {
+        self.low[position_at(&self.low, self.low_used, place.0)].bytes()
+    }
+
+    fn low_bytes_mut(&mut self, place: Place) -> &mut [u8] {
+        let at = position_at(&self.low, self.low_used, place.0);
+        self.low[at].bytes_mut()
+    }
+
+    fn size(&self) -> u32 {
+        self.size
+    }
+
+    fn room(&self) -> u32 {
+        self.size - self.high_used - self.low_used
+    }
+
+    ghost low_writes = { λ s place bytes. refl };
+}
