@@ -1,0 +1,4 @@
+mod Examples
+pub mod Cuts
+pub mod NameLaws
+pub mod NumberLaws
