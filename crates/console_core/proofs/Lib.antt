@@ -1,0 +1,4 @@
+pub mod Following
+pub mod Loading
+pub mod Running
+pub mod Telling

@@ -1,0 +1,6 @@
+pub mod Words
+pub mod Lines
+pub mod Loads
+pub mod Runs
+pub mod Calls
+pub mod Ends
