@@ -1,7 +1,7 @@
 //! A folder, a source and a sink in memory, whose calls fail by a list of their numbers.
 //!
-//! The first call has the number 0. Numbers and counts stand at the last value of a `u64`, so from there on a call
-//! fails where that value is listed.
+//! The first call has the number 0. Numbers and counts stand still at the last value of a `u64`: each call from there
+//! on has that number, and fails where it is listed.
 ghost use Rattle.std.specs.Prelude.{◌≡◌, ◌<◌, ◌≤◌, ◌^◌, All, IfOk, [], vec_len};
 ghost use Rattle.outside_io.specs.Files.{told};
 
@@ -31,7 +31,8 @@ impl Model for MemFolder {
 }
 
 impl MemFolder {
-    /// A folder of these files. The calls of these numbers fail, counted from 0 over `len_of` and `read_at`.
+    /// A folder of these files, each of fewer than 2^62 bytes. The calls of these numbers fail, counted from 0 over
+    /// `len_of` and `read_at`.
     pub fn create(files: Vec<MemFile>, fails: Vec<u64>) -> MemFolder
         requires { All (λ file. vec_len file.bytes < 2 ^ 62) files.items }
         ensures { result ≡ record { files = told files.items; failing = fails.items; calls = 0; faults = 0 } }
@@ -117,7 +118,8 @@ impl Model for MemSource {
 }
 
 impl MemSource {
-    /// A source of these bytes. A read gives at most `piece` of them, and the reads of these numbers, from 0, fail.
+    /// A source of these bytes. A read gives at most `piece` of them, which is 1 or more, and the reads of these
+    /// numbers, from 0, fail.
     pub fn create(bytes: Vec<u8>, piece: usize, fails: Vec<u64>) -> MemSource
         requires { 1 ≤ piece }
         ensures { result ≡ record { rest = bytes.items; piece = piece; failing = fails.items; calls = 0; faults = 0 } }

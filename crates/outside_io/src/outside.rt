@@ -22,10 +22,10 @@ pub trait Folder: Drop {
     /// The files, where the folder tells them. No call changes them.
     ghost files: { Self → Option (List File) };
 
-    /// How many calls have failed. The count stands at the last value of a `u64`.
+    /// How many calls have failed. The count stands still at the last value of a `u64`.
     ghost folder_faults: { Self → ℕ };
 
-    /// How many calls of `len_of` and `read_at` were made. The count stands at the last value of a `u64`.
+    /// How many calls of `len_of` and `read_at` were made. The count stands still at the last value of a `u64`.
     ghost folder_calls: { Self → ℕ };
 
     /// The length in bytes of the first file of this name, or `None` exactly where there is no such file.
@@ -60,7 +60,7 @@ pub trait Source {
     /// The bytes that are left, where the source tells them.
     ghost rest: { Self → Option (List ℕ) };
 
-    /// How many reads have failed. The count stands at the last value of a `u64`.
+    /// How many reads have failed. The count stands still at the last value of a `u64`.
     ghost source_faults: { Self → ℕ };
 
     /// Takes bytes into the front of `into`, and answers how many. It is `Ok(0)` exactly at the end.
@@ -78,7 +78,7 @@ pub trait Sink {
     /// The bytes that were put, where the sink tells them.
     ghost got: { Self → Option (List ℕ) };
 
-    /// How many puts have failed. The count stands at the last value of a `u64`.
+    /// How many puts have failed. The count stands still at the last value of a `u64`.
     ghost sink_faults: { Self → ℕ };
 
     /// Adds the piece at the end. After an error a front of it was added.
