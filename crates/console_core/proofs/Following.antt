@@ -1,5 +1,5 @@
 -- What a call did, by what was put.
-use Rattle.std.proofs.Common.{◌≡◌, ℕ, List, Option, Some, None, IfSome, Result, Ok, Err, ap, subst, sym}
+use Rattle.std.proofs.Common.{◌≡◌, ℕ, List, Option, Some, None, IfSome, Result, Ok, Err, ap}
 use Rattle.outside_io.specs.Files.{File}
 use Rattle.mem_model.specs.Memory.{Memory}
 use Rattle.console_core.specs.Loads.{Missing, load_low, Loads}

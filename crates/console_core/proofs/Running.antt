@@ -6,7 +6,7 @@ use Rattle.outside_io.specs.Streams.{Adds, AddsFront}
 use Rattle.outside_io.proofs.Puts.{adds_none, adds_both}
 use Rattle.mem_model.specs.Memory.{Memory}
 use Rattle.console_core.specs.Lines.{lines}
-use Rattle.console_core.specs.Runs.{Did, Reply, texts, answer, replies, run}
+use Rattle.console_core.specs.Runs.{Reply, texts, answer, replies, run}
 use Rattle.console_core.specs.Calls.{IsUnanswered, StopsBefore, StopsIn, Follows, RunsTo}
 use Rattle.console_core.specs.declared.status.Fault.{Fault}
 use Rattle.console_core.specs.declared.status.Fault.TheVariants as fault

@@ -56,7 +56,7 @@ fn load_into<M: Store, F: Folder>(
     ensures files { F.files folder.new ≡ F.files folder.old }
     ensures faults { F.folder_faults folder.old ≤ F.folder_faults folder.new }
     ensures fault { IsErrOf result LoadError.FolderFault → Rose (F.folder_faults folder.old) (F.folder_faults folder.new) }
-    ensures memory { IsErrOf result LoadError.OutOfMemory → M.frugal ≡ false }
+    ensures memory { IsErrOf result LoadError.OutOfMemory → (M.frugal ≡ false) × (M.state store.new ≡ M.state store.old) }
 {
     let Ok(found) = folder.len_of(name) else {
         return Err(LoadError::FolderFault);
@@ -87,7 +87,7 @@ pub fn load<M: Store, F: Folder>(
     ensures files { F.files folder.new ≡ F.files folder.old }
     ensures faults { F.folder_faults folder.old ≤ F.folder_faults folder.new }
     ensures fault { IsErrOf result LoadError.FolderFault → Rose (F.folder_faults folder.old) (F.folder_faults folder.new) }
-    ensures memory { IsErrOf result LoadError.OutOfMemory → M.frugal ≡ false }
+    ensures memory { IsErrOf result LoadError.OutOfMemory → (M.frugal ≡ false) × (M.state store.new ≡ M.state store.old) }
 {
     load_into(store, folder, name.bytes(), name.base())
 }

@@ -10,6 +10,7 @@ use outside_io::Source;
 
 // How many bytes a script has at most, and one more, by which a longer one is told.
 const LIMIT: usize = 4096;
+
 const CAPACITY: usize = LIMIT + 1;
 
 // How many bytes are asked for at a time.

@@ -1,7 +1,6 @@
 use Rattle.std.proofs.Common.{arith, refl}
 use Rattle.std.proofs.lemmas.List.{length-replicate}
 use Rattle.mem_model.proofs.Laying.{Laid-with_low_bytes}
-use Rattle.mem_model.proofs.Laws.{low_bytes-written}
 use Rattle.console_core.proofs.Loading.{not_found, no_room, there, zeros, done}
 use Rattle.console_core.proofs.load.load_into.Goals as goal
 
@@ -37,4 +36,3 @@ returns-clause-told g c =
     done (g.F.Folder.files c.args.folder.now) (g.M.Store.state c.args.store.now) (g.M.Store.state c.low_alloc.new.self) _ c.args.name.now c.args.block_name.now c.low_bytes_mut.result.now c.fill.new.into c.in-Ok.found c.in-Some.len (record { place = c.in-Ok-low_alloc.place; length = c.in-Some.len })
     c.in-Some.is c.in-Ok.ensures.length gives.answer gives.after fresh c.low_bytes_mut.ensures.shows c.fill.auto.into refl
     (rw c.in-Ok.ensures.same at c.in_default-fill.ensures.filled) (g.met.M.Store.low_writes _ _ _)
-

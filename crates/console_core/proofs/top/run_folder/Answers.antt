@@ -1,7 +1,6 @@
-use Rattle.std.proofs.Common.{◌≡◌, ℕ, List, IfSome, Result, Ok, inr, refl}
-use Rattle.outside_io.specs.Files.{File}
+use Rattle.std.proofs.Common.{List, Ok, inr, refl}
 use Rattle.outside_io.specs.Streams.{Adds}
-use Rattle.console_core.specs.Runs.{Reply, run, texts}
+use Rattle.console_core.specs.Runs.{Reply, texts}
 use Rattle.console_core.specs.Calls.{StopsBefore, StopsIn}
 use Rattle.console_core.proofs.Telling.{of_the_run}
 use Rattle.console_core.proofs.top.run_folder.Goals as goal
