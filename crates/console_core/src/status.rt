@@ -13,21 +13,22 @@ pub enum Fault {
     Memory,
 }
 
-/// How a run ended.
+/// How a run ended. `quake_main` says what was put and taken then.
 #[derive(Drop)]
 pub enum Status<F: Folder = Box<dyn Folder>> {
     /// The script was read to its end, and each of its lines was answered.
     Done,
     /// The number of the first word that breaks the rule, or of words where one is missing.
     Usage { word: u32 },
+    /// The host had no memory for a block.
     OutOfMemory,
-    /// A read of the script failed. Nothing was put.
+    /// A read of the script failed, before any line was run.
     ScriptFault,
-    /// A call of the folder of this word failed. The folder is handed back.
+    /// A call of the folder of this word failed. The folder is handed back with its counts.
     FolderFault { word: u32, folder: F },
-    /// A put failed.
+    /// A put of a reply failed.
     WriteFault,
-    /// The script has more than 4096 bytes. Nothing was put.
+    /// The script has more than 4096 bytes. No line was run.
     ScriptTooLong,
 }
 

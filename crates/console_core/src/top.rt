@@ -50,7 +50,10 @@ fn run_folder<F: Folder, S: Source, O: Sink>(
     let mut folder = folder;
     match run_lines(&mut store, &mut folder, text.as_slice(), out) {
         Ok(()) => Status::Done,
-        Err(Fault::Folder) => Status::FolderFault { word: 2, folder },
+        Err(Fault::Folder) => Status::FolderFault {
+            word: FOLDER as u32,
+            folder,
+        },
         Err(Fault::Write) => Status::WriteFault,
         Err(Fault::Memory) => Status::OutOfMemory,
     }
@@ -81,9 +84,19 @@ fn run<F: Folder, S: Source, O: Sink>(
     run_folder(alloc, kilobytes, folder, script, out)
 }
 
-/// Runs a script over the folder of the last word: reads it whole, and then answers its lines.
+/// Runs a script over a folder, and puts the replies to its lines.
 ///
-/// The words are `-heapsize`, a number of kilobytes from 1024 to 65536, and a folder; the folder of number i stands for word i.
+/// The words are `-heapsize`, a number of kilobytes from 1024 to 65536, and a folder's word, which isn't empty and
+/// doesn't begin with `-`. `Usage` tells the number of the first word that breaks this, or the number of words where
+/// one is missing; it comes before memory is taken, anything is read or anything is put. The folder of number i stands
+/// for word i; those of the other words are dropped unused.
+///
+/// The script is read whole before a line is run, and has at most 4096 bytes. After `ScriptFault` and `ScriptTooLong`
+/// nothing was put. A line ends at a newline; a last line without one counts where it isn't empty.
+///
+/// After `FolderFault` the replies before one line that asked for a file were put, after `WriteFault` the replies before
+/// one reply and a front of that one. `OutOfMemory` comes while the heap is made, before anything is read, or where a
+/// file was to be loaded.
 pub fn quake_main<S: Source, O: Sink>(
     alloc: Global,
     words: &[String],
