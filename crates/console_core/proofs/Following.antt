@@ -1,24 +1,56 @@
--- What a call did, by what was put.
-use Rattle.std.proofs.Common.{◌≡◌, ℕ, List, Option, Some, None, IfSome, Result, Ok, Err, ap}
+-- From what a reply put to what a command did.
+use Rattle.std.proofs.Common.{◌≡◌, ◌≢◌, ℕ, ◌<◌, length, List, Option, Some, None, IfSome, Result, Ok, Err, sym, ◌∙◌, ap, subst, arith}
+use Rattle.std.proofs.lemmas.Bool.{ne_eqb}
 use Rattle.outside_io.specs.Files.{File}
-use Rattle.mem_model.specs.Memory.{Memory}
-use Rattle.console_core.specs.Loads.{Missing, load_low, Loads}
-use Rattle.console_core.specs.Runs.{Did, file_text, filed}
-use Rattle.console_core.specs.Calls.{Puts, Follows}
-use Rattle.console_core.specs.declared.load.LoadError.TheVariants as load_error
-use Rattle.console_core.specs.declared.status.Fault.{Fault}
-use Rattle.console_core.specs.declared.status.Fault.TheVariants as fault
+use Rattle.outside_io.specs.Streams.{Adds, AddsFront}
+use Rattle.cmd_buffer.specs.Buffer.{cut, kept, first_command}
+use Rattle.console_core.specs.States.{State, Did, CutsOff, Replies, Follows}
+use Rattle.console_core.specs.Commands.{word_at, verb_of, by_verb, by_words, by_text, command}
+use Rattle.console_core.specs.declared.verbs.Verb.{Verb}
+use Rattle.console_core.specs.declared.ends.Next.{Next}
+use Rattle.console_core.specs.declared.ends.Fault.{Fault}
 
--- the reply of a line was put, with the memory that the line leaves
-pub follows : {T : Type 0} (did : Did) (text : List ℕ) (result : Result T Fault) (new : Memory) (start now : Option (List ℕ)) → did.reply.text ≡ text → new ≡ did.after → Puts text result start now → Follows did result new start now
-follows did text (Ok done) new start now is after put = record { after = after; put = rw is put }
-follows did text (Err fault.Write) new start now is after put = rw is put.1
-follows did text (Err fault.Folder) new start now is after put = absurd (let other = put.0 in cc)
-follows did text (Err fault.Memory) new start now is after put = absurd (let other = put.0 in cc)
+-- what holds of the told files gives what is to be shown of them
+pub of_files : {P Q : List File → Type 0} (told : Option (List File)) → IfSome told P → ((files : List File) → P files → Q files) → IfSome told Q
+of_files None known step = tt
+of_files (Some files) known step = step files known
 
-pub follows_missing : {T : Type 0} (told : Option (List File)) (m new : Memory) (name : List ℕ) (result : Result T Fault) (start now : Option (List ℕ))
-    → IfSome told (λ files. Loads (load_low files m name) (Err load_error.NotFound) new) → Puts (file_text name Missing) result start now
-    → IfSome told (λ files. Follows (filed name (load_low files m name)) result new start now)
-follows_missing None m new name result start now refused put = tt
-follows_missing (Some files) m new name result start now refused put =
-    follows (filed name (load_low files m name)) (file_text name Missing) result new start now (ap (file_text name) refused.load) refused.after put
+-- the same from two facts
+pub of_both : {P R Q : List File → Type 0} (told : Option (List File)) → IfSome told P → IfSome told R → ((files : List File) → P files → R files → Q files) → IfSome told Q
+of_both None known more step = tt
+of_both (Some files) known more step = step files known more
+
+pub always : {Q : List File → Type 0} (told : Option (List File)) → ((files : List File) → Q files) → IfSome told Q
+always None step = tt
+always (Some files) step = step files
+
+-- A command whose reply was put was done.
+pub follow : (did : Did) (text : List ℕ) (next : Next) (result : Result Next Fault) (after : State) (start now : Option (List ℕ)) → did.reply.text ≡ text → did.next ≡ next → after ≡ did.after → Replies text next result start now → Follows did result after start now
+follow did text next (Ok answer) after start now text_is next_is after_is replies = record {
+  next = next_is ∙ sym replies.0;
+  after = after_is;
+  put = subst (λ t. Adds t start now) (sym text_is) replies.1;
+}
+follow did text next (Err error) after start now text_is next_is after_is replies =
+    subst (λ e. CutsOff did.reply e start now) (sym replies.0) (subst (λ t. AddsFront t start now) (sym text_is) replies.1)
+
+-- the same command under another name
+pub same_did : (did other : Did) (result : Result Next Fault) (after : State) (start now : Option (List ℕ)) → did ≡ other → Follows other result after start now → Follows did result after start now
+same_did did other result after start now is follows = subst (λ d. Follows d result after start now) (sym is) follows
+
+-- the command of words, of which there are some
+pub by_words_is : (files : List File) (s : State) (words : List (List ℕ)) (count : ℕ) (word : List ℕ) (v : Option Verb) → count ≡ length words → count ≢ 0 → word ≡ word_at 0 words → v ≡ verb_of word → by_words files s words ≡ by_verb files s words v
+by_words_is files s words count word v count_is some word_is v_is =
+    rw (ne_eqb (length words) 0 (λ e. some (count_is ∙ e))) (ap (λ (o : Option Verb). by_verb files s words o) (sym (v_is ∙ ap verb_of word_is)))
+
+some_same : (a b : Option (List ℕ)) → Some a ≡ Some b → a ≡ b
+some_same a b e = cc
+
+-- the first command of a buffer that isn't empty
+pub command_is : (files : List File) (s : State) (taken : Option (List ℕ)) (rest : List ℕ) → 0 < length s.buffer → Some taken ≡ first_command s.buffer → rest ≡ (cut s.buffer).rest
+    → command files s ≡ by_text files (record s { buffer = rest }) taken
+unfolding command
+command_is files s taken rest some first rest_is =
+    let buffer_of : List ℕ → State = λ (b : List ℕ). record s { buffer = b } in
+    let taken_is : taken ≡ kept (cut s.buffer).command = some_same taken (kept (cut s.buffer).command) (rw (ne_eqb (length s.buffer) 0 (λ e. omega arith)) at first) in
+    ap (λ (b : List ℕ). by_text files (buffer_of b) (kept (cut s.buffer).command)) (sym rest_is) ∙ ap (λ (t : Option (List ℕ)). by_text files (buffer_of rest) t) (sym taken_is)

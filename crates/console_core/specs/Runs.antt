@@ -1,67 +1,142 @@
--- What a script does, line by line, and what it prints.
-use Rattle.std.specs.Prelude.{ℕ, Bool, true, false, ◌||◌, ◌==◌, nat_eq, if◌then◌else◌, List, [], ◌∷◌, ◌++◌, length, drop, Option, Some, None, codes, decimal}
-use Rattle.std.specs.List.{starts_with, list_all}
-use Rattle.std.specs.Char.{is_ascii_alphanumeric}
-use Rattle.base_fields.specs.Names.{lawful_name}
+-- Frames, lines and whole runs.
+use Prim.Native.Nat.{zero, suc}
+use Rattle.std.specs.Prelude.{◌≡◌, ℕ, List, [], ◌∷◌, ◌++◌, length, take, Bool, true, false, ◌==◌, if◌then◌else◌, Option, Some, None, Result, Ok, Err, codes}
+use Rattle.std.specs.List.{AllByRecursion}
 use Rattle.outside_io.specs.Files.{File}
-use Rattle.mem_model.specs.Memory.{Memory}
-use Rattle.reply_pieces.specs.Pieces.{joined}
-use Rattle.console_core.specs.Lines.{lines}
-use Rattle.console_core.specs.Loads.{Load, Missing, NoRoom, At, Loading, load_low}
+use Rattle.outside_io.specs.Streams.{Adds}
+use Rattle.console_core.specs.States.{State, Reply, CutsOff}
+use Rattle.console_core.specs.Commands.{command, fits_in, until_zero}
+use Rattle.console_core.specs.declared.ends.Next.{Next}
+use Rattle.console_core.specs.declared.ends.Next.TheVariants.{Goes, Waits, Quits}
+use Rattle.console_core.specs.declared.ends.Fault.{Fault}
+use Rattle.console_core.specs.declared.ends.Fault.TheVariants as fault
 
--- what a line prints, and whether it asks for a file
-pub record Reply : Type 0 where
-  pub text : List ℕ
-  pub load : Bool
+-- a run of commands: the state after it, the replies, and whether `quit` was executed
+pub record Ran : Type 0 where
+  pub after : State
+  pub replies : List Reply
+  pub quit : Bool
 
--- what a line does: its reply, and the memory after it
-pub record Did : Type 0 where
-  pub reply : Reply
-  pub after : Memory
+abbrev pub plain : List ℕ → Reply
+plain text = record { text = text; load = false }
 
--- a line that leaves the memory and asks for no file
-abbrev pub says : Memory → List ℕ → Did
-says m text = record { reply = record { text = text; load = false }; after = m }
+abbrev pub stopped : State → List Reply → Bool → Ran
+stopped s replies quit = record { after = s; replies = replies; quit = quit }
 
--- a letter, a digit, or one of `.`, `_` and `/`
-abbrev pub is_plain_byte : ℕ → Bool
-is_plain_byte byte = is_ascii_alphanumeric byte || byte == 46 || byte == 95 || byte == 47
+-- a reply, and then what follows
+abbrev pub and_then : Reply → Ran → Ran
+and_then reply ran = record ran { replies = reply ∷ ran.replies }
 
--- a lawful name of such bytes alone
-abbrev pub plain_name : List ℕ → Option (List ℕ)
-plain_name word = if list_all is_plain_byte word then lawful_name word else None
+-- Whether a frame ends behind a command, and whether by `quit`. `through` says that `wait` ends no frame.
+abbrev pub ending : Bool → Next → Option Bool
+ending through Goes = None
+ending through Waits = if through then None else Some false
+ending through Quits = Some true
 
--- the name in a line `file NAME`
-abbrev pub file_name : List ℕ → Option (List ℕ)
-file_name line = if starts_with nat_eq line (codes "file ") then plain_name (drop 5 line) else None
+-- what follows a command
+abbrev pub continued : Reply → State → Option Bool → (State → Ran) → Ran
+continued reply s None rest = and_then reply (rest s)
+continued reply s (Some quit) rest = stopped s (reply ∷ []) quit
 
-abbrev pub file_text : List ℕ → Load → List ℕ
-file_text name Missing = joined (codes "not found: " ∷ name ∷ codes "\n" ∷ [])
-file_text name (NoRoom asked) = joined (codes "failed on " ∷ decimal asked ∷ codes " bytes\n" ∷ [])
-file_text name (At place bytes) = joined (codes "file " ∷ name ∷ codes " " ∷ decimal (length bytes) ∷ codes " at " ∷ decimal place ∷ codes "\n" ∷ [])
+-- the commands of the buffer, of which at most so many are taken
+unfoldable pub frame : Bool → List File → ℕ → State → Ran
+frame through files zero s = if length s.buffer == 0 then stopped s [] false else stopped (record s { buffer = [] }) (plain (codes "runaway\n") ∷ []) false
+frame through files (suc n) s = if length s.buffer == 0 then stopped s [] false
+    else continued (command files s).reply (command files s).after (ending through (command files s).next) (λ after. frame through files n after)
 
-abbrev pub filed : List ℕ → Loading → Did
-filed name loading = record { reply = record { text = file_text name loading.load; load = true }; after = loading.after }
+-- what an input line adds to the buffer
+abbrev pub input : List ℕ → List ℕ
+input text = until_zero text ++ 10 ∷ []
 
--- a line with the name of a file, or without one
-abbrev pub by_name : List File → Memory → Option (List ℕ) → Did
-by_name files m None = says m (joined (codes "not built\n" ∷ []))
-by_name files m (Some name) = filed name (load_low files m name)
+unfoldable pub overflowed : List File → State → Ran
+overflowed files s = and_then (plain (codes "overflow\n")) (frame false files 4096 s)
 
--- what a line does; an empty one does nothing
-abbrev pub answer : List File → Memory → List ℕ → Did
-answer files m line = if length line == 0 then says m [] else by_name files m (file_name line)
+unfoldable pub line : List File → State → List ℕ → Ran
+line files s text = if fits_in (input text) s.buffer then frame false files 4096 (record s { buffer = s.buffer ++ input text })
+    else overflowed files s
 
--- the replies to lines, one after another
-abbrev pub replies : List File → Memory → List (List ℕ) → List Reply
-replies files m [] = []
-replies files m (line ∷ lines) = (answer files m line).reply ∷ replies files (answer files m line).after lines
+unfoldable pub finish : List File → State → Ran
+finish files s = frame true files 4096 s
 
--- the replies to a script's lines, from the first memory on
-abbrev pub run : List File → Memory → List ℕ → List Reply
-run files m script = replies files m (lines script)
-
--- what replies print, one after another
 abbrev pub texts : List Reply → List ℕ
 texts [] = []
 texts (reply ∷ replies) = reply.text ++ texts replies
+
+-- all replies were put
+pub record IsRun (ran : Ran) (answer : Bool) (new : State) (start now : Option (List ℕ)) : Type 0 where
+  pub quit : ran.quit ≡ answer
+  pub after : new ≡ ran.after
+  pub put : Adds (texts ran.replies) start now
+
+-- the replies before one reply were put, and a fault ended that one
+pub record IsCutShort (replies : List Reply) (fault : Fault) (start now : Option (List ℕ)) : Type 0 where
+  pub before : List Reply
+  pub reply : Reply
+  pub later : List Reply
+  pub split : replies ≡ before ++ reply ∷ later
+  pub mid : Option (List ℕ)
+  pub put : Adds (texts before) start mid
+  pub part : CutsOff reply fault mid now
+
+-- A run was done whole, or a fault ended it; `answer` tells whether `quit` was executed.
+abbrev pub Runs : Ran → Result Bool Fault → State → (start now : Option (List ℕ)) → Type 0
+Runs ran (Ok quit) after start now = IsRun ran quit after start now
+Runs ran (Err fault) after start now = IsCutShort ran.replies fault start now
+
+-- two runs, one after another
+abbrev pub joined_runs : Ran → Ran → Ran
+joined_runs first second = record { after = second.after; replies = first.replies ++ second.replies; quit = second.quit }
+
+abbrev pub go_on : Bool → Ran → Ran → Ran
+go_on true ran next = ran
+go_on false ran next = joined_runs ran next
+
+-- a run, and then what follows where it didn't quit
+abbrev pub followed : Ran → (State → Ran) → Ran
+followed ran rest = go_on ran.quit ran (rest ran.after)
+
+-- lines of input, one after another, up to `quit`
+abbrev pub run_lines : List File → State → List (List ℕ) → Ran
+run_lines files s [] = stopped s [] false
+run_lines files s (text ∷ lines) = followed (line files s text) (λ after. run_lines files after lines)
+
+-- the whole lines of a text, which end in a newline, and the rest
+pub record Lines : Type 0 where
+  pub whole : List (List ℕ)
+  pub rest : List ℕ
+
+-- the first line begins with this byte
+abbrev pub begun : ℕ → List (List ℕ) → List ℕ → Lines
+begun byte [] rest = record { whole = []; rest = byte ∷ rest }
+begun byte (text ∷ others) rest = record { whole = (byte ∷ text) ∷ others; rest = rest }
+
+abbrev pub one_byte : Bool → ℕ → Lines → Lines
+one_byte true byte lines = record { whole = [] ∷ lines.whole; rest = lines.rest }
+one_byte false byte lines = begun byte lines.whole lines.rest
+
+abbrev pub lines_of : List ℕ → Lines
+lines_of [] = record { whole = []; rest = [] }
+lines_of (byte ∷ bytes) = one_byte (byte == 10) byte (lines_of bytes)
+
+-- a last line without a newline counts where it isn't empty
+abbrev pub last_line : List File → State → List ℕ → Ran
+last_line files s text = if length text == 0 then stopped s [] false else line files s text
+
+-- the line at the script's end, and the frames after it
+abbrev pub rest_run : List File → State → List ℕ → Ran
+rest_run files s text = followed (last_line files s text) (λ after. finish files after)
+
+-- the whole script
+abbrev pub run : List File → State → List ℕ → Ran
+run files s script = followed (run_lines files s (lines_of script).whole) (λ after. rest_run files after (lines_of script).rest)
+
+-- what a byte runs, behind what is kept of its line
+abbrev pub byte_run : List File → State → List ℕ → ℕ → Ran
+byte_run files s pending byte = if byte == 10 then line files s pending else stopped s [] false
+
+-- what is kept of an unfinished line: its first 8192 bytes, which are more than the buffer holds
+abbrev pub still_pending : List ℕ → ℕ → List ℕ
+still_pending pending byte = if byte == 10 then [] else take 8192 (pending ++ byte ∷ [])
+
+abbrev pub HasNoNewline : List ℕ → Type 0
+HasNoNewline text = AllByRecursion (λ byte. (byte == 10) ≡ false) text

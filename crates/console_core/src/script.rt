@@ -1,64 +1,138 @@
-// The script: its bytes and its lines.
-ghost use Rattle.std.specs.Prelude.{◌≡◌, ◌<◌, ◌≤◌, ◌∷◌, [], length, IfSome, OnOk, IsErrOf};
-ghost use Rattle.arrayvec.specs.ArrayVec.{array_vec_len};
-ghost use Rattle.outside_io.specs.Causes.{Rose};
-ghost use Rattle.outside_io.specs.Streams.{Took};
-ghost use Rattle.console_core.specs.Lines.{lines};
+// The script: it is read in pieces, and the whole lines of what was taken are run before the next read.
+ghost use Rattle.std.specs.Prelude.{◌≡◌, ◌≤◌, ◌++◌, IfSome, Ok, [], take, false};
+ghost use Rattle.console_core.specs.Mounts.{told_files, count_of};
+ghost use Rattle.console_core.specs.States.{HasCauses};
+ghost use Rattle.console_core.specs.Sessions.{state_of, told_end};
+ghost use Rattle.console_core.specs.Runs.{run_lines, lines_of, byte_run, still_pending, last_line, rest_run, line, Runs};
+ghost use Rattle.console_core.specs.Reading.{HasRead};
 
+use crate::ends::{Fault, StepEnd};
+use crate::session::Session;
 use arrayvec::ArrayVec;
-use outside_io::Source;
+use mem_model::Store;
+use outside_io::{Folder, Sink, Source};
 
-// How many bytes a script has at most, and one more, by which a longer one is told.
-const LIMIT: usize = 4096;
+// How many bytes are read at a time at most.
+const PIECE: usize = 4096;
 
-const CAPACITY: usize = LIMIT + 1;
+// How many bytes a script has at most.
+const LIMIT: usize = 1_048_576;
 
-// How many bytes are asked for at a time.
-const PIECE: usize = 512;
+/// What is kept of a line that has no end yet: its first bytes, one more than the buffer holds.
+pub type Pending = ArrayVec<u8, 8192>;
 
-/// The bytes of a script, as they were read.
-pub type Text = ArrayVec<u8, CAPACITY>;
-
-/// Why a script was not read.
+/// How the reading of a script ended.
 #[derive(Clone, Copy, Debug, PartialEq, Eq)]
-pub enum ScriptError {
+pub enum ReadEnd {
+    /// The script was read to its end.
+    AtEnd,
+    /// `quit` was executed.
+    Quit,
+    /// A fault ended a line.
+    Ended(Fault),
+    /// A read failed.
     Failed,
+    /// A byte more than a script may have was taken.
     TooLong,
 }
 
-/// Reads a source to its end, or to a byte more than a script may have.
-pub fn read_all<S: Source>(script: &mut S, text: &mut Text) -> Result<(), ScriptError>
-    requires { text.old.items ≡ [] }
-    ensures took { Took text.new.items (S.rest script.old) (S.rest script.new) }
-    ensures ended { OnOk result (IfSome (S.rest script.new) (λ left. left ≡ [])) }
-    ensures short { OnOk result (array_vec_len text.new ≤ LIMIT) }
-    ensures too_long { IsErrOf result ScriptError.TooLong → array_vec_len text.new ≡ CAPACITY }
-    ensures failed { IsErrOf result ScriptError.Failed → Rose (S.source_faults script.old) (S.source_faults script.new) }
-    ensures fits { IsErrOf result ScriptError.Failed → array_vec_len text.new ≤ LIMIT }
-    ensures faults { S.source_faults script.old ≤ S.source_faults script.new }
+// Whether `quit` was executed in a step, or the fault that ended it.
+fn told(end: StepEnd) -> Result<bool, Fault>
+    ensures { result ≡ told_end end }
 {
-    let mut piece = [0u8; PIECE];
-    'read: while !text.is_full() {
-        let most = PIECE.min(text.remaining_capacity());
-        match script.read(&mut piece[..most]) {
-            Ok(0) => return Ok(()),
-            Ok(n) => text.try_extend_from_slice(&piece[..n]).unwrap(),
-            Err(_) => return Err(ScriptError::Failed),
-        }
+    match end {
+        StepEnd::Went => Ok(false),
+        StepEnd::Quit => Ok(true),
+        StepEnd::FolderFault { .. } => Err(Fault::Folder),
+        StepEnd::WriteFault => Err(Fault::Write),
+        StepEnd::OutOfMemory => Err(Fault::Memory),
     }
-    Err(ScriptError::TooLong)
 }
 
-/// The first line, and what follows it.
-pub fn next_line(text: &[u8]) -> (&[u8], &[u8])
-    requires { 0 < length text.now }
-    ensures first { lines text.now ≡ result.0.now ∷ lines result.1.now }
-    ensures shorter { length result.1.now < length text.now }
+// Runs a line. True where `quit` was executed.
+fn run_line<M: Store, F: Folder, O: Sink>(
+    session: &mut Session<M, F>,
+    text: &[u8],
+    out: &mut O,
+) -> Result<bool, Fault>
+    requires going { session.old.ended ≡ false }
+    ensures told { IfSome (told_files F.files session.old.paths) (λ files. Runs (line files (state_of M.state session.old) text.now) result (state_of M.state session.new) (O.got out.old) (O.got out.new)) }
+    ensures going { result ≡ Ok false → session.new.ended ≡ false }
+    ensures files { told_files F.files session.new.paths ≡ told_files F.files session.old.paths }
+    ensures causes { HasCauses M.frugal (count_of F.folder_faults session.old.paths) (count_of F.folder_faults session.new.paths) (O.sink_faults out.old) (O.sink_faults out.new) result }
 {
-    for (i, byte) in text.iter().enumerate() {
-        if *byte == b'\n' {
-            return (&text[..i], &text[i + 1..]);
+    told(session.step(text, out))
+}
+
+// Takes a byte, and runs the line that it ends. True where `quit` was executed.
+fn feed_byte<M: Store, F: Folder, O: Sink>(
+    session: &mut Session<M, F>,
+    pending: &mut Pending,
+    byte: u8,
+    out: &mut O,
+) -> Result<bool, Fault>
+    requires going { session.old.ended ≡ false }
+    ensures told { IfSome (told_files F.files session.old.paths) (λ files. Runs (byte_run files (state_of M.state session.old) pending.old.items byte) result (state_of M.state session.new) (O.got out.old) (O.got out.new)) }
+    ensures rest { result ≡ Ok false → pending.new.items ≡ still_pending pending.old.items byte }
+    ensures going { result ≡ Ok false → session.new.ended ≡ false }
+    ensures files { told_files F.files session.new.paths ≡ told_files F.files session.old.paths }
+    ensures causes { HasCauses M.frugal (count_of F.folder_faults session.old.paths) (count_of F.folder_faults session.new.paths) (O.sink_faults out.old) (O.sink_faults out.new) result }
+{
+    if byte == b'\n' {
+        let result = run_line(session, pending.as_slice(), out);
+        pending.clear();
+        return result;
+    }
+    keep(pending, byte);
+    Ok(false)
+}
+
+// Keeps a byte of an unfinished line, where there is room.
+fn keep(pending: &mut Pending, byte: u8)
+    ensures { pending.new.items ≡ take 8192 (pending.old.items ++ byte ∷ []) }
+{
+    if !pending.is_full() {
+        pending.push(byte);
+    }
+}
+
+// Runs the whole lines of what is pending and a piece, and keeps the rest. True where `quit` was executed.
+fn feed<M: Store, F: Folder, O: Sink>(
+    session: &mut Session<M, F>,
+    pending: &mut Pending,
+    piece: &[u8],
+    out: &mut O,
+) -> Result<bool, Fault>
+    requires pending { HasNoNewline pending.old.items }
+    requires going { session.old.ended ≡ false }
+    ensures told { IfSome (told_files F.files session.old.paths) (λ files. Runs (run_lines files (state_of M.state session.old) (lines_of (pending.old.items ++ piece.now)).whole) result (state_of M.state session.new) (O.got out.old) (O.got out.new)) }
+    ensures rest { result ≡ Ok false → pending.new.items ≡ take 8192 (lines_of (pending.old.items ++ piece.now)).rest }
+    ensures going { result ≡ Ok false → session.new.ended ≡ false }
+    ensures files { told_files F.files session.new.paths ≡ told_files F.files session.old.paths }
+    ensures causes { HasCauses M.frugal (count_of F.folder_faults session.old.paths) (count_of F.folder_faults session.new.paths) (O.sink_faults out.old) (O.sink_faults out.new) result }
+{
+    for byte in piece {
+        match feed_byte(session, pending, *byte, out) {
+            Ok(false) => {}
+            Ok(true) => return Ok(true),
+            Err(fault) => return Err(fault),
         }
     }
-    (text, &text[text.len()..])
+    Ok(false)
+}
+
+// Reads a byte past the limit, to see whether the script is longer.
+fn read_past<S: Source>(script: &mut S) -> ReadEnd
+    ensures end { (result ≡ ReadEnd.AtEnd) ⊎ (result ≡ ReadEnd.Failed) ⊎ (result ≡ ReadEnd.TooLong) }
+    ensures took { Took (past result) (S.rest script.old) (S.rest script.new) }
+    ensures ended { result ≡ ReadEnd.AtEnd → IfSome (S.rest script.new) (λ left. left ≡ []) }
+    ensures failed { result ≡ ReadEnd.Failed → Rose (S.source_faults script.old) (S.source_faults script.new) }
+    ensures faults { S.source_faults script.old ≤ S.source_faults script.new }
+{
+    let mut byte = [0u8; 1];
+    match script.read(&mut byte) {
+        Ok(0) => ReadEnd::AtEnd,
+        Ok(_) => ReadEnd::TooLong,
+        Err(_) => ReadEnd::Failed,
+    }
 }

@@ -1,0 +1,46 @@
+use Rattle.std.proofs.Common.{◌<◌, ◌≤◌, ◌+◌, ℕ, List, [], ◌∷◌, ◌++◌, length, get_or, drop, Option, Result, Ok, Err, ap, subst, arith, refl}
+use Rattle.std.proofs.lemmas.List.{drop_more, drop_all}
+use Rattle.outside_io.specs.Streams.{Adds, AddsFront}
+use Rattle.outside_io.proofs.Puts.{PutSoFar, one_put, front_put, all_put}
+use Rattle.cmd_buffer.specs.Words.{words_of}
+use Rattle.console_core.specs.States.{Replies}
+use Rattle.console_core.specs.Commands.{spaced}
+use Rattle.console_core.specs.declared.ends.Next.{Next}
+use Rattle.console_core.specs.declared.ends.Next.TheVariants.{Goes}
+use Rattle.console_core.specs.declared.ends.Fault.{Fault}
+use Rattle.console_core.proofs.session.put_echo.Goals as goal
+
+module _ (words : List (List ℕ)) (i : ℕ) (start mid now : Option (List ℕ)) (so_far : PutSoFar (spaced (drop 1 words)) start (spaced (drop i words)) mid) where
+  here : i < length words → PutSoFar (spaced (drop 1 words)) start ((get_or words i [] ++ 32 ∷ []) ++ spaced (drop (i + 1) words)) mid
+  here inside = subst (λ r. PutSoFar (spaced (drop 1 words)) start r mid) (ap spaced (drop_more words i [] inside)) so_far
+
+  more : i < length words → Adds (get_or words i [] ++ 32 ∷ []) mid now → PutSoFar (spaced (drop 1 words)) start (spaced (drop (i + 1) words)) now
+  more inside added = one_put (spaced (drop 1 words)) (get_or words i [] ++ 32 ∷ []) (spaced (drop (i + 1) words)) start mid now (here inside) added
+
+  cut : i < length words → AddsFront (get_or words i [] ++ 32 ∷ []) mid now → AddsFront (spaced (drop 1 words)) start now
+  cut inside part = front_put (spaced (drop 1 words)) (get_or words i [] ++ 32 ∷ []) (spaced (drop (i + 1) words)) start mid now (here inside) part
+
+  last : length words ≤ i → PutSoFar (spaced (drop 1 words)) start ((10 ∷ []) ++ []) mid
+  last end = subst (λ r. PutSoFar (spaced (drop 1 words)) start r mid) (ap spaced (drop_all i words end)) so_far
+
+  ended : length words ≤ i → (result : Result Next Fault) → Replies (10 ∷ []) Goes result mid now → Replies (spaced (drop 1 words)) Goes result start now
+  ended end (Ok next) replies = (replies.0, all_put (spaced (drop 1 words)) start now (one_put (spaced (drop 1 words)) (10 ∷ []) [] start mid now (last end) replies.1))
+  ended end (Err error) replies = (replies.0, front_put (spaced (drop 1 words)) (10 ∷ []) [] start mid now (last end) replies.1)
+
+pub loop-number-preserved : goal.loop-number-preserved
+loop-number-preserved g c =
+    let words = words_of c.args.words.now.text.now in
+    record {
+      put = more words c.loop-number.number _ _ _ c.loop-number.invariant.put (omega arith) (rw c.word.ensures at c.in_default.ensures.added);
+      faults = omega arith;
+    }
+
+pub returns-in-Err-clause-replies : goal.returns-in-Err-clause-replies
+returns-in-Err-clause-replies g c =
+    let words = words_of c.args.words.now.text.now in
+    (refl, cut words c.loop-number.number _ _ _ c.loop-number.invariant.put (omega arith) (rw c.word.ensures at c.in-Err.ensures.part))
+
+pub returns-clause-replies : goal.returns-clause-replies
+returns-clause-replies g c =
+    let words = words_of c.args.words.now.text.now in
+    ended words c.loop-number.number _ _ _ c.loop-number.invariant.put (omega arith) _ c.reply.ensures.replies

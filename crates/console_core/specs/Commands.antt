@@ -1,0 +1,114 @@
+-- The commands.
+use Rattle.std.specs.Prelude.{ℕ, ◌+◌, Bool, ◌==◌, nat_le, if◌then◌else◌, List, [], ◌∷◌, ◌++◌, length, drop, slice_index_or, Option, Some, None, codes, decimal}
+use Rattle.std.specs.List.{before_first}
+use Rattle.std.specs.Str.{str_eq_ignore_ascii_case}
+use Rattle.base_fields.specs.Names.{lawful_name}
+use Rattle.outside_io.specs.Files.{File}
+use Rattle.mem_model.specs.Memory.{Memory, low_used}
+use Rattle.mem_model.specs.Operations.{low_free}
+use Rattle.cmd_buffer.specs.Words.{words_of}
+use Rattle.cmd_buffer.specs.Buffer.{cut, kept}
+use Rattle.reply_pieces.specs.Pieces.{joined}
+use Rattle.console_core.specs.States.{State, Did, says, loads}
+use Rattle.console_core.specs.Loads.{Load, Missing, NoRoom, At, Loading, load_low}
+use Rattle.console_core.specs.declared.ends.Next.TheVariants.{Goes, Waits, Quits}
+use Rattle.console_core.specs.declared.verbs.Verb.{Verb}
+use Rattle.console_core.specs.declared.verbs.Verb.TheVariants as verb
+
+-- the word of this number, empty where there is none
+abbrev pub word_at : ℕ → List (List ℕ) → List ℕ
+word_at number words = slice_index_or words number []
+
+-- the command that a word names, in any case
+abbrev pub verb_of : List ℕ → Option Verb
+verb_of word = if str_eq_ignore_ascii_case word (codes "file") then Some verb.File
+    else (if str_eq_ignore_ascii_case word (codes "echo") then Some verb.Echo
+    else (if str_eq_ignore_ascii_case word (codes "exec") then Some verb.Exec
+    else (if str_eq_ignore_ascii_case word (codes "wait") then Some verb.Wait
+    else (if str_eq_ignore_ascii_case word (codes "quit") then Some verb.Quit else None))))
+
+-- each word followed by a space, and a newline at the end
+abbrev pub spaced : List (List ℕ) → List ℕ
+spaced [] = 10 ∷ []
+spaced (word ∷ words) = (word ++ 32 ∷ []) ++ spaced words
+
+abbrev pub answer_echo : State → List (List ℕ) → Did
+answer_echo s words = says s Goes (spaced (drop 1 words))
+
+abbrev pub bad_name : State → Did
+bad_name s = says s Goes (joined (codes "bad name\n" ∷ []))
+
+abbrev pub short_text : ℕ → List ℕ
+short_text asked = joined (codes "failed on " ∷ decimal asked ∷ codes " bytes\n" ∷ [])
+
+abbrev pub file_text : List ℕ → Load → List ℕ
+file_text name Missing = joined (codes "not found: " ∷ name ∷ codes "\n" ∷ [])
+file_text name (NoRoom asked) = short_text asked
+file_text name (At place bytes) = joined (codes "file " ∷ name ∷ codes " " ∷ decimal (length bytes) ∷ codes " at " ∷ decimal place ∷ codes "\n" ∷ [])
+
+abbrev pub filed : State → List ℕ → Loading → Did
+filed s name loading = loads (record s { memory = loading.after }) (file_text name loading.load)
+
+-- `file`, by its name where that is lawful
+abbrev pub file_named : List File → State → Option (List ℕ) → Did
+file_named files s None = bad_name s
+file_named files s (Some name) = filed s name (load_low files s.memory name)
+
+abbrev pub answer_file : List File → State → List (List ℕ) → Did
+answer_file files s words = file_named files s (lawful_name (word_at 1 words))
+
+-- the bytes before the first zero
+abbrev pub until_zero : List ℕ → List ℕ
+until_zero bytes = before_first (λ byte. byte == 0) bytes
+
+-- the buffer holds 8191 bytes
+abbrev pub fits_in : List ℕ → List ℕ → Bool
+fits_in text buffer = nat_le (length buffer + length text) 8191
+
+-- what `exec` prints of a file that was loaded, and inserted or not
+abbrev pub exec_text : List ℕ → Bool → List ℕ
+exec_text name fits = joined (codes "execing " ∷ name ∷ codes "\n" ∷ (if fits then [] else codes "overflow\n") ∷ [])
+
+abbrev pub inserted : State → Memory → List ℕ → List ℕ → Did
+inserted s m name text = loads (record { memory = m; buffer = (if fits_in text s.buffer then text ++ s.buffer else s.buffer) }) (exec_text name (fits_in text s.buffer))
+
+-- what was loaded is inserted in front of the buffer, and the low hunk is freed to the mark before the load
+abbrev pub executed : State → List ℕ → Memory → Load → Did
+executed s name m Missing = loads (record s { memory = m }) (joined (codes "couldn't exec " ∷ name ∷ codes "\n" ∷ []))
+executed s name m (NoRoom asked) = loads (record s { memory = m }) (short_text asked)
+executed s name m (At place bytes) = inserted s (low_free m (low_used s.memory)).after name (until_zero bytes)
+
+abbrev pub exec_named : List File → State → Option (List ℕ) → Did
+exec_named files s None = bad_name s
+exec_named files s (Some name) = executed s name (load_low files s.memory name).after (load_low files s.memory name).load
+
+abbrev pub answer_exec : List File → State → List (List ℕ) → Did
+answer_exec files s words = exec_named files s (lawful_name (word_at 1 words))
+
+abbrev pub unknown_word : State → List ℕ → Did
+unknown_word s word = says s Goes (joined (codes "Unknown command \"" ∷ word ∷ codes "\"\n" ∷ []))
+
+abbrev pub unknown : State → List (List ℕ) → Did
+unknown s words = unknown_word s (word_at 0 words)
+
+-- one arm for each command
+abbrev pub by_verb : List File → State → List (List ℕ) → Option Verb → Did
+by_verb files s words None = unknown s words
+by_verb files s words (Some verb.File) = answer_file files s words
+by_verb files s words (Some verb.Echo) = answer_echo s words
+by_verb files s words (Some verb.Exec) = answer_exec files s words
+by_verb files s words (Some verb.Wait) = says s Waits []
+by_verb files s words (Some verb.Quit) = says s Quits []
+
+-- a text without words does nothing
+abbrev pub by_words : List File → State → List (List ℕ) → Did
+by_words files s words = if length words == 0 then says s Goes [] else by_verb files s words (verb_of (word_at 0 words))
+
+-- the command of a text that was taken, or of one that is too long
+abbrev pub by_text : List File → State → Option (List ℕ) → Did
+by_text files s None = says s Goes (joined (codes "line too long\n" ∷ []))
+by_text files s (Some text) = by_words files s (words_of text)
+
+-- the first command of the buffer
+unfoldable pub command : List File → State → Did
+command files s = by_text files (record s { buffer = (cut s.buffer).rest }) (kept (cut s.buffer).command)

@@ -1,0 +1,27 @@
+-- What a session is seen as, and how its steps end.
+use Rattle.std.specs.Prelude.{ℕ, Bool, true, false, Result, Ok, Err}
+use Rattle.mem_model.specs.Memory.{Memory}
+use Rattle.console_core.specs.States.{State}
+use Rattle.console_core.specs.declared.session.Session.{Session}
+use Rattle.console_core.specs.declared.ends.StepEnd.{StepEnd}
+use Rattle.console_core.specs.declared.ends.StepEnd.TheVariants.{Went, Quit, FolderFault, WriteFault, OutOfMemory}
+use Rattle.console_core.specs.declared.ends.Fault.{Fault}
+use Rattle.console_core.specs.declared.ends.Fault.TheVariants as fault
+
+abbrev pub state_of : {M F : Type 0} → (M → Memory) → Session M F → State
+state_of state session = record { memory = state session.store; buffer = session.buffer }
+
+-- what a step's end tells: whether `quit` was executed, or the fault
+abbrev pub told_end : StepEnd → Result Bool Fault
+told_end Went = Ok false
+told_end Quit = Ok true
+told_end (FolderFault folder) = Err fault.Folder
+told_end WriteFault = Err fault.Write
+told_end OutOfMemory = Err fault.Memory
+
+abbrev pub is_end : StepEnd → Bool
+is_end Went = false
+is_end Quit = true
+is_end (FolderFault folder) = true
+is_end WriteFault = true
+is_end OutOfMemory = true

@@ -1,0 +1,67 @@
+-- The state of a console, and what a command does to it.
+use Rattle.std.specs.Prelude.{◌≡◌, ◌≤◌, ℕ, List, Bool, true, false, Option, Result, Ok, Err, IfErr}
+use Rattle.outside_io.specs.Causes.{Rose}
+use Rattle.outside_io.specs.Streams.{Adds, AddsFront}
+use Rattle.mem_model.specs.Memory.{Memory}
+use Rattle.console_core.specs.declared.ends.Next.{Next}
+use Rattle.console_core.specs.declared.ends.Next.TheVariants.{Goes}
+use Rattle.console_core.specs.declared.ends.Fault.{Fault}
+use Rattle.console_core.specs.declared.ends.Fault.TheVariants as fault
+
+-- the memory, and the bytes of the command buffer
+pub record State : Type 0 where
+  pub memory : Memory
+  pub buffer : List ℕ
+
+-- what a command prints, and whether it asked for a file
+pub record Reply : Type 0 where
+  pub text : List ℕ
+  pub load : Bool
+
+-- what a command does: the state after it, its reply, and how the console goes on
+pub record Did : Type 0 where
+  pub after : State
+  pub reply : Reply
+  pub next : Next
+
+-- a command that asks for no file
+abbrev pub says : State → Next → List ℕ → Did
+says s next text = record { after = s; reply = record { text = text; load = false }; next = next }
+
+-- a command that asks for a file
+abbrev pub loads : State → List ℕ → Did
+loads s text = record { after = s; reply = record { text = text; load = true }; next = Goes }
+
+-- All that a command does was done.
+pub record IsDone (did : Did) (answer : Next) (new : State) (start now : Option (List ℕ)) : Type 0 where
+  pub next : did.next ≡ answer
+  pub after : new ≡ did.after
+  pub put : Adds did.reply.text start now
+
+-- A fault ended a command in its reply: a failing sink took a front of it, and nothing of it was put where a folder failed or
+-- memory ran out, as a command that asks for a file may answer.
+abbrev pub CutsOff : Reply → Fault → (start now : Option (List ℕ)) → Type 0
+CutsOff reply fault.Write start now = AddsFront reply.text start now
+CutsOff reply fault.Folder start now = (reply.load ≡ true) × (now ≡ start)
+CutsOff reply fault.Memory start now = (reply.load ≡ true) × (now ≡ start)
+
+-- A call did what a command does, or a fault ended it in its reply.
+abbrev pub Follows : Did → Result Next Fault → State → (start now : Option (List ℕ)) → Type 0
+Follows did (Ok next) after start now = IsDone did next after start now
+Follows did (Err fault) after start now = CutsOff did.reply fault start now
+
+-- A reply was put, or a failing sink took a front of it.
+abbrev pub Replies : List ℕ → Next → Result Next Fault → (start now : Option (List ℕ)) → Type 0
+Replies text next (Ok answer) start now = (answer ≡ next) × Adds text start now
+Replies text next (Err error) start now = (error ≡ fault.Write) × AddsFront text start now
+
+abbrev pub CauseOf : Bool → (folder_before folder_now sink_before sink_now : ℕ) → Fault → Type 0
+CauseOf frugal folder_before folder_now sink_before sink_now fault.Folder = Rose folder_before folder_now
+CauseOf frugal folder_before folder_now sink_before sink_now fault.Write = Rose sink_before sink_now
+CauseOf frugal folder_before folder_now sink_before sink_now fault.Memory = frugal ≡ false
+
+-- each fault has its cause, and no count of faults falls
+pub record HasCauses {A : Type 0} (frugal : Bool) (folder_before folder_now sink_before sink_now : ℕ) (result : Result A Fault) : Type 0 where
+  pub folder_counts : folder_before ≤ folder_now
+  pub sink_counts : sink_before ≤ sink_now
+  pub cause : IfErr result (λ fault. CauseOf frugal folder_before folder_now sink_before sink_now fault)

@@ -1,0 +1,484 @@
+// A session of the console.
+ghost use Rattle.std.specs.Prelude.{◌≡◌, ◌≤◌, ◌++◌, [], length, drop, IfSome, OnOk, OnErr, IfOk, IfErr, IsSomeAnd, take, position, ◌==◌, if◌then◌else◌, false, true, codes};
+ghost use Rattle.outside_io.specs.Causes.{Rose};
+ghost use Rattle.outside_io.specs.Streams.{Adds, AddsFront};
+ghost use Rattle.mem_model.specs.Hunk.{low_bytes};
+ghost use Rattle.mem_model.specs.Operations.{low_free};
+ghost use Rattle.cmd_buffer.specs.Buffer.{text_of_command};
+ghost use Rattle.cmd_buffer.specs.Words.{words_of};
+ghost use Rattle.reply_pieces.specs.Pieces.{text_of};
+ghost use Rattle.console_core.specs.States.{Replies, Follows, HasCauses};
+ghost use Rattle.console_core.specs.Mounts.{told_files, count_of};
+ghost use Rattle.console_core.specs.Loads.{load_low};
+ghost use Rattle.console_core.specs.Commands.{answer_echo, answer_file, answer_exec, file_named, exec_named, filed, executed, by_verb, by_words, by_text, command, spaced, until_zero, fits_in, exec_text, unknown, unknown_word};
+ghost use Rattle.console_core.specs.Sessions.{state_of, told_end, is_end};
+ghost use Rattle.console_core.specs.Runs.{frame, finish, line, overflowed, input, ending, Runs};
+
+use crate::ends::{Fault, Next, StepEnd};
+use crate::load::{LoadError, Loaded, load};
+use crate::paths::Paths;
+use crate::verbs::{Verb, find_verb};
+use base_fields::{GameName, game_name};
+use cmd_buffer::{CmdBuffer, Command, Words, tokenize};
+use mem_model::Store;
+use outside_io::{Folder, Sink};
+use reply_pieces::{Piece, put_all};
+use std::alloc::AllocError;
+
+// How many bytes the buffer holds.
+const SPACE: usize = 8191;
+
+// How many commands a frame takes.
+const MOST: u32 = 4096;
+
+/// A console over a store and a path of folders.
+#[derive(Drop)]
+pub struct Session<M: Store, F: Folder = Box<dyn Folder>> {
+    store: M,
+    paths: Paths<F>,
+    buffer: CmdBuffer,
+    ended: bool,
+}
+
+// Puts a reply, after which the console goes on like this.
+fn reply<O: Sink>(out: &mut O, next: Next, pieces: &[Piece]) -> Result<Next, Fault>
+    ensures replies { Replies (text_of pieces.now) next result (O.got out.old) (O.got out.new) }
+    ensures write { OnErr result (Rose (O.sink_faults out.old) (O.sink_faults out.new)) }
+    ensures faults { O.sink_faults out.old ≤ O.sink_faults out.new }
+{
+    match put_all(out, pieces) {
+        Ok(()) => Ok(next),
+        Err(_) => Err(Fault::Write),
+    }
+}
+
+impl<M: Store, F: Folder> Session<M, F> {
+    /// A session over a store that was just created, and a path.
+    ///
+    /// It holds what is handed in and values of fixed size, and takes no memory of its own.
+    pub fn start(store: M, paths: Paths<F>) -> Result<Session<M, F>, AllocError>
+        ensures state { IfOk result (λ session. state_of M.state session ≡ record { memory = M.state store; buffer = [] }) }
+        ensures files { IfOk result (λ session. told_files F.files session.paths ≡ told_files F.files paths) }
+        ensures faults { IfOk result (λ session. count_of F.folder_faults session.paths ≡ count_of F.folder_faults paths) }
+        ensures going { IfOk result (λ session. session.ended ≡ false) }
+        ensures memory { OnErr result (M.frugal ≡ false) }
+    {
+        Ok(Session {
+            store,
+            paths,
+            buffer: CmdBuffer::create(),
+            ended: false,
+        })
+    }
+
+    // Loads a file and shows it.
+    fn show_file<O: Sink>(&mut self, name: &GameName, out: &mut O) -> Result<Next, Fault>
+        ensures told { IfSome (told_files F.files self.old.paths) (λ files. Follows (filed (state_of M.state self.old) name.now (load_low files (M.state self.old.store) name.now)) result (state_of M.state self.new) (O.got out.old) (O.got out.new)) }
+        ensures files { told_files F.files self.new.paths ≡ told_files F.files self.old.paths }
+        ensures causes { HasCauses M.frugal (count_of F.folder_faults self.old.paths) (count_of F.folder_faults self.new.paths) (O.sink_faults out.old) (O.sink_faults out.new) result }
+    {
+        match load(&mut self.store, &mut self.paths, name) {
+            Ok(loaded) => reply(
+                out,
+                Next::Goes,
+                &[
+                    Piece::Text(b"file "),
+                    Piece::Text(name.bytes()),
+                    Piece::Text(b" "),
+                    Piece::Number(loaded.length),
+                    Piece::Text(b" at "),
+                    Piece::Number(u64::from(loaded.place.0)),
+                    Piece::Text(b"\n"),
+                ],
+            ),
+            Err(LoadError::NotFound) => reply(
+                out,
+                Next::Goes,
+                &[
+                    Piece::Text(b"not found: "),
+                    Piece::Text(name.bytes()),
+                    Piece::Text(b"\n"),
+                ],
+            ),
+            Err(LoadError::NoRoom { asked }) => reply(
+                out,
+                Next::Goes,
+                &[
+                    Piece::Text(b"failed on "),
+                    Piece::Number(asked),
+                    Piece::Text(b" bytes\n"),
+                ],
+            ),
+            Err(LoadError::FolderFault) => Err(Fault::Folder),
+            Err(LoadError::OutOfMemory) => Err(Fault::Memory),
+        }
+    }
+
+    fn file_named<O: Sink>(&mut self, name: Option<GameName>, out: &mut O) -> Result<Next, Fault>
+        ensures told { IfSome (told_files F.files self.old.paths) (λ files. Follows (file_named files (state_of M.state self.old) name) result (state_of M.state self.new) (O.got out.old) (O.got out.new)) }
+        ensures files { told_files F.files self.new.paths ≡ told_files F.files self.old.paths }
+        ensures causes { HasCauses M.frugal (count_of F.folder_faults self.old.paths) (count_of F.folder_faults self.new.paths) (O.sink_faults out.old) (O.sink_faults out.new) result }
+    {
+        match name {
+            Some(name) => self.show_file(&name, out),
+            None => reply(out, Next::Goes, &[Piece::Text(b"bad name\n")]),
+        }
+    }
+
+    fn file<O: Sink>(&mut self, words: &Words<'_>, out: &mut O) -> Result<Next, Fault>
+        ensures told { IfSome (told_files F.files self.old.paths) (λ files. Follows (answer_file files (state_of M.state self.old) (words_of words.now.text.now)) result (state_of M.state self.new) (O.got out.old) (O.got out.new)) }
+        ensures files { told_files F.files self.new.paths ≡ told_files F.files self.old.paths }
+        ensures causes { HasCauses M.frugal (count_of F.folder_faults self.old.paths) (count_of F.folder_faults self.new.paths) (O.sink_faults out.old) (O.sink_faults out.new) result }
+    {
+        self.file_named(game_name(words.word(1)).ok(), out)
+    }
+
+    // Inserts a loaded file in front of the buffer, and frees what was loaded.
+    fn insert_loaded(&mut self, mark: u32, loaded: Loaded) -> bool
+        requires there { IsSomeAnd (low_bytes (M.state self.old.store) loaded.place.0) (λ bytes. loaded.length ≤ length bytes) }
+        ensures buffer { IfSome (low_bytes (M.state self.old.store) loaded.place.0) (λ bytes. self.new.buffer ≡ (if fits_in (until_zero (take loaded.length bytes)) self.old.buffer then until_zero (take loaded.length bytes) ++ self.old.buffer else self.old.buffer)) }
+        ensures fits { IfSome (low_bytes (M.state self.old.store) loaded.place.0) (λ bytes. result ≡ fits_in (until_zero (take loaded.length bytes)) self.old.buffer) }
+        ensures memory { M.state self.new.store ≡ (low_free (M.state self.old.store) mark).after }
+        ensures paths { self.new.paths ≡ self.old.paths }
+    {
+        let bytes = self.store.low_bytes(loaded.place);
+        let inserted = self
+            .buffer
+            .insert(before_zero(&bytes[..loaded.length as usize]))
+            .is_ok();
+        let _ = self.store.low_free(mark);
+        inserted
+    }
+
+    // Loads a file and inserts it.
+    fn execute<O: Sink>(&mut self, name: &GameName, out: &mut O) -> Result<Next, Fault>
+        ensures told { IfSome (told_files F.files self.old.paths) (λ files. Follows (executed (state_of M.state self.old) name.now (load_low files (M.state self.old.store) name.now).after (load_low files (M.state self.old.store) name.now).load) result (state_of M.state self.new) (O.got out.old) (O.got out.new)) }
+        ensures files { told_files F.files self.new.paths ≡ told_files F.files self.old.paths }
+        ensures causes { HasCauses M.frugal (count_of F.folder_faults self.old.paths) (count_of F.folder_faults self.new.paths) (O.sink_faults out.old) (O.sink_faults out.new) result }
+    {
+        let mark = self.store.low_mark();
+        match load(&mut self.store, &mut self.paths, name) {
+            Ok(loaded) => {
+                let inserted = self.insert_loaded(mark, loaded);
+                put_executed(out, name.bytes(), inserted)
+            }
+            Err(LoadError::NotFound) => reply(
+                out,
+                Next::Goes,
+                &[
+                    Piece::Text(b"couldn't exec "),
+                    Piece::Text(name.bytes()),
+                    Piece::Text(b"\n"),
+                ],
+            ),
+            Err(LoadError::NoRoom { asked }) => reply(
+                out,
+                Next::Goes,
+                &[
+                    Piece::Text(b"failed on "),
+                    Piece::Number(asked),
+                    Piece::Text(b" bytes\n"),
+                ],
+            ),
+            Err(LoadError::FolderFault) => Err(Fault::Folder),
+            Err(LoadError::OutOfMemory) => Err(Fault::Memory),
+        }
+    }
+
+    fn exec_named<O: Sink>(&mut self, name: Option<GameName>, out: &mut O) -> Result<Next, Fault>
+        ensures told { IfSome (told_files F.files self.old.paths) (λ files. Follows (exec_named files (state_of M.state self.old) name) result (state_of M.state self.new) (O.got out.old) (O.got out.new)) }
+        ensures files { told_files F.files self.new.paths ≡ told_files F.files self.old.paths }
+        ensures causes { HasCauses M.frugal (count_of F.folder_faults self.old.paths) (count_of F.folder_faults self.new.paths) (O.sink_faults out.old) (O.sink_faults out.new) result }
+    {
+        match name {
+            Some(name) => self.execute(&name, out),
+            None => reply(out, Next::Goes, &[Piece::Text(b"bad name\n")]),
+        }
+    }
+
+    fn exec<O: Sink>(&mut self, words: &Words<'_>, out: &mut O) -> Result<Next, Fault>
+        ensures told { IfSome (told_files F.files self.old.paths) (λ files. Follows (answer_exec files (state_of M.state self.old) (words_of words.now.text.now)) result (state_of M.state self.new) (O.got out.old) (O.got out.new)) }
+        ensures files { told_files F.files self.new.paths ≡ told_files F.files self.old.paths }
+        ensures causes { HasCauses M.frugal (count_of F.folder_faults self.old.paths) (count_of F.folder_faults self.new.paths) (O.sink_faults out.old) (O.sink_faults out.new) result }
+    {
+        self.exec_named(game_name(words.word(1)).ok(), out)
+    }
+
+    fn echo<O: Sink>(&mut self, words: &Words<'_>, out: &mut O) -> Result<Next, Fault>
+        ensures told { IfSome (told_files F.files self.old.paths) (λ files. Follows (answer_echo (state_of M.state self.old) (words_of words.now.text.now)) result (state_of M.state self.new) (O.got out.old) (O.got out.new)) }
+        ensures files { told_files F.files self.new.paths ≡ told_files F.files self.old.paths }
+        ensures causes { HasCauses M.frugal (count_of F.folder_faults self.old.paths) (count_of F.folder_faults self.new.paths) (O.sink_faults out.old) (O.sink_faults out.new) result }
+    {
+        put_echo(words, out)
+    }
+
+    fn unknown_word<O: Sink>(&mut self, word: &[u8], out: &mut O) -> Result<Next, Fault>
+        ensures told { IfSome (told_files F.files self.old.paths) (λ files. Follows (unknown_word (state_of M.state self.old) word.now) result (state_of M.state self.new) (O.got out.old) (O.got out.new)) }
+        ensures files { told_files F.files self.new.paths ≡ told_files F.files self.old.paths }
+        ensures causes { HasCauses M.frugal (count_of F.folder_faults self.old.paths) (count_of F.folder_faults self.new.paths) (O.sink_faults out.old) (O.sink_faults out.new) result }
+    {
+        reply(
+            out,
+            Next::Goes,
+            &[
+                Piece::Text(b"Unknown command \""),
+                Piece::Text(word),
+                Piece::Text(b"\"\n"),
+            ],
+        )
+    }
+
+    fn unknown<O: Sink>(&mut self, words: &Words<'_>, out: &mut O) -> Result<Next, Fault>
+        ensures told { IfSome (told_files F.files self.old.paths) (λ files. Follows (unknown (state_of M.state self.old) (words_of words.now.text.now)) result (state_of M.state self.new) (O.got out.old) (O.got out.new)) }
+        ensures files { told_files F.files self.new.paths ≡ told_files F.files self.old.paths }
+        ensures causes { HasCauses M.frugal (count_of F.folder_faults self.old.paths) (count_of F.folder_faults self.new.paths) (O.sink_faults out.old) (O.sink_faults out.new) result }
+    {
+        self.unknown_word(words.word(0), out)
+    }
+
+    // One arm for each command.
+    fn run_verb<O: Sink>(
+        &mut self,
+        verb: Option<Verb>,
+        words: &Words<'_>,
+        out: &mut O,
+    ) -> Result<Next, Fault>
+        ensures told { IfSome (told_files F.files self.old.paths) (λ files. Follows (by_verb files (state_of M.state self.old) (words_of words.now.text.now) verb) result (state_of M.state self.new) (O.got out.old) (O.got out.new)) }
+        ensures files { told_files F.files self.new.paths ≡ told_files F.files self.old.paths }
+        ensures causes { HasCauses M.frugal (count_of F.folder_faults self.old.paths) (count_of F.folder_faults self.new.paths) (O.sink_faults out.old) (O.sink_faults out.new) result }
+    {
+        match verb {
+            None => self.unknown(words, out),
+            Some(Verb::File) => self.file(words, out),
+            Some(Verb::Echo) => self.echo(words, out),
+            Some(Verb::Exec) => self.exec(words, out),
+            Some(Verb::Wait) => Ok(Next::Waits),
+            Some(Verb::Quit) => Ok(Next::Quits),
+        }
+    }
+
+    fn run_words<O: Sink>(&mut self, words: &Words<'_>, out: &mut O) -> Result<Next, Fault>
+        ensures told { IfSome (told_files F.files self.old.paths) (λ files. Follows (by_words files (state_of M.state self.old) (words_of words.now.text.now)) result (state_of M.state self.new) (O.got out.old) (O.got out.new)) }
+        ensures files { told_files F.files self.new.paths ≡ told_files F.files self.old.paths }
+        ensures causes { HasCauses M.frugal (count_of F.folder_faults self.old.paths) (count_of F.folder_faults self.new.paths) (O.sink_faults out.old) (O.sink_faults out.new) result }
+    {
+        if words.count() == 0 {
+            return Ok(Next::Goes);
+        }
+        self.run_verb(find_verb(words.word(0)), words, out)
+    }
+
+    fn run_taken<O: Sink>(&mut self, taken: &Command, out: &mut O) -> Result<Next, Fault>
+        ensures told { IfSome (told_files F.files self.old.paths) (λ files. Follows (by_text files (state_of M.state self.old) (text_of_command taken.now)) result (state_of M.state self.new) (O.got out.old) (O.got out.new)) }
+        ensures files { told_files F.files self.new.paths ≡ told_files F.files self.old.paths }
+        ensures causes { HasCauses M.frugal (count_of F.folder_faults self.old.paths) (count_of F.folder_faults self.new.paths) (O.sink_faults out.old) (O.sink_faults out.new) result }
+    {
+        match taken {
+            Command::TooLong => reply(out, Next::Goes, &[Piece::Text(b"line too long\n")]),
+            Command::Text(text) => self.run_words(&tokenize(text), out),
+        }
+    }
+
+    // Takes a command and runs it.
+    fn run_command<O: Sink>(&mut self, out: &mut O) -> Result<Next, Fault>
+        requires some { 0 < length self.old.buffer }
+        ensures told { IfSome (told_files F.files self.old.paths) (λ files. Follows (command files (state_of M.state self.old)) result (state_of M.state self.new) (O.got out.old) (O.got out.new)) }
+        ensures files { told_files F.files self.new.paths ≡ told_files F.files self.old.paths }
+        ensures causes { HasCauses M.frugal (count_of F.folder_faults self.old.paths) (count_of F.folder_faults self.new.paths) (O.sink_faults out.old) (O.sink_faults out.new) result }
+    {
+        match self.buffer.take() {
+            Some(taken) => self.run_taken(&taken, out),
+            None => Ok(Next::Goes),
+        }
+    }
+
+    // Takes commands until the buffer is empty, or a command ends the frame. True where `quit` was executed.
+    fn run_frame<O: Sink>(&mut self, through: bool, out: &mut O) -> Result<bool, Fault>
+        ensures told { IfSome (told_files F.files self.old.paths) (λ files. Runs (frame through files 4096 (state_of M.state self.old)) result (state_of M.state self.new) (O.got out.old) (O.got out.new)) }
+        ensures files { told_files F.files self.new.paths ≡ told_files F.files self.old.paths }
+        ensures causes { HasCauses M.frugal (count_of F.folder_faults self.old.paths) (count_of F.folder_faults self.new.paths) (O.sink_faults out.old) (O.sink_faults out.new) result }
+    {
+        let mut budget = MOST;
+        'commands: while 0 < self.buffer.used() {
+            if budget == 0 {
+                self.buffer.clear();
+                return put_runaway(out);
+            }
+            budget -= 1;
+            let next = match self.run_command(out) {
+                Ok(next) => next,
+                Err(fault) => return Err(fault),
+            };
+            if let Some(quit) = ends_frame(through, next) {
+                return Ok(quit);
+            }
+        }
+        Ok(false)
+    }
+
+    // Says that there was no room for a line, and goes on.
+    fn run_overflow<O: Sink>(&mut self, out: &mut O) -> Result<bool, Fault>
+        ensures told { IfSome (told_files F.files self.old.paths) (λ files. Runs (overflowed files (state_of M.state self.old)) result (state_of M.state self.new) (O.got out.old) (O.got out.new)) }
+        ensures files { told_files F.files self.new.paths ≡ told_files F.files self.old.paths }
+        ensures causes { HasCauses M.frugal (count_of F.folder_faults self.old.paths) (count_of F.folder_faults self.new.paths) (O.sink_faults out.old) (O.sink_faults out.new) result }
+    {
+        if let Err(_) = out.put(b"overflow\n") {
+            return Err(Fault::Write);
+        }
+        self.run_frame(false, out)
+    }
+
+    pub(crate) fn run_line<O: Sink>(&mut self, text: &[u8], out: &mut O) -> Result<bool, Fault>
+        ensures told { IfSome (told_files F.files self.old.paths) (λ files. Runs (line files (state_of M.state self.old) text.now) result (state_of M.state self.new) (O.got out.old) (O.got out.new)) }
+        ensures files { told_files F.files self.new.paths ≡ told_files F.files self.old.paths }
+        ensures causes { HasCauses M.frugal (count_of F.folder_faults self.old.paths) (count_of F.folder_faults self.new.paths) (O.sink_faults out.old) (O.sink_faults out.new) result }
+    {
+        if add_line(&mut self.buffer, text) {
+            self.run_frame(false, out)
+        } else {
+            self.run_overflow(out)
+        }
+    }
+
+    /// Takes an input line, and runs a frame.
+    pub fn step<O: Sink>(&mut self, text: &[u8], out: &mut O) -> StepEnd
+        requires going { self.old.ended ≡ false }
+        ensures told { IfSome (told_files F.files self.old.paths) (λ files. Runs (line files (state_of M.state self.old) text.now) (told_end result) (state_of M.state self.new) (O.got out.old) (O.got out.new)) }
+        ensures files { told_files F.files self.new.paths ≡ told_files F.files self.old.paths }
+        ensures causes { HasCauses M.frugal (count_of F.folder_faults self.old.paths) (count_of F.folder_faults self.new.paths) (O.sink_faults out.old) (O.sink_faults out.new) (told_end result) }
+        ensures ended { self.new.ended ≡ is_end result }
+    {
+        let end = end_of(self.run_line(text, out));
+        self.ended = ends_run(end);
+        end
+    }
+
+    /// Runs the frames after the script's end.
+    pub fn finish<O: Sink>(&mut self, out: &mut O) -> StepEnd
+        requires going { self.old.ended ≡ false }
+        ensures told { IfSome (told_files F.files self.old.paths) (λ files. Runs (finish files (state_of M.state self.old)) (told_end result) (state_of M.state self.new) (O.got out.old) (O.got out.new)) }
+        ensures files { told_files F.files self.new.paths ≡ told_files F.files self.old.paths }
+        ensures causes { HasCauses M.frugal (count_of F.folder_faults self.old.paths) (count_of F.folder_faults self.new.paths) (O.sink_faults out.old) (O.sink_faults out.new) (told_end result) }
+        ensures ended { self.new.ended ≡ true }
+    {
+        let end = end_of(self.run_frame(true, out));
+        self.ended = true;
+        end
+    }
+
+    /// Whether the run has ended.
+    pub fn ended(&self) -> bool
+        ensures { result ≡ self.now.ended }
+    {
+        self.ended
+    }
+}
+
+// Adds an input line to the buffer, where it fits.
+fn add_line(buffer: &mut CmdBuffer, text: &[u8]) -> bool
+    ensures fits { result ≡ fits_in (input text.now) buffer.old }
+    ensures buffer { buffer.new ≡ (if fits_in (input text.now) buffer.old then buffer.old ++ input text.now else buffer.old) }
+{
+    let text = before_zero(text);
+    if buffer.used() + (text.len() + 1) <= SPACE {
+        buffer.add(text).unwrap();
+        buffer.add(b"\n").unwrap();
+        true
+    } else {
+        false
+    }
+}
+
+// How a step ended.
+fn end_of(outcome: Result<bool, Fault>) -> StepEnd
+    ensures { told_end result ≡ outcome }
+{
+    match outcome {
+        Ok(false) => StepEnd::Went,
+        Ok(true) => StepEnd::Quit,
+        Err(Fault::Folder) => StepEnd::FolderFault { folder: 0 },
+        Err(Fault::Write) => StepEnd::WriteFault,
+        Err(Fault::Memory) => StepEnd::OutOfMemory,
+    }
+}
+
+fn ends_run(end: StepEnd) -> bool
+    ensures { result ≡ is_end end }
+{
+    match end {
+        StepEnd::Went => false,
+        _ => true,
+    }
+}
+
+// Whether a frame ends behind a command, and whether by `quit`.
+fn ends_frame(through: bool, next: Next) -> Option<bool>
+    ensures { result ≡ ending through next }
+{
+    match next {
+        Next::Goes => None,
+        Next::Waits => { if through { None } else { Some(false) } }
+        Next::Quits => Some(true),
+    }
+}
+
+fn put_runaway<O: Sink>(out: &mut O) -> Result<bool, Fault>
+    ensures put { OnOk result (Adds (codes "runaway\n") (O.got out.old) (O.got out.new)) }
+    ensures end { IfOk result (λ quit. quit ≡ false) }
+    ensures part { OnErr result (AddsFront (codes "runaway\n") (O.got out.old) (O.got out.new)) }
+    ensures fault { IfErr result (λ e. e ≡ Fault.Write) }
+    ensures write { OnErr result (Rose (O.sink_faults out.old) (O.sink_faults out.new)) }
+    ensures faults { O.sink_faults out.old ≤ O.sink_faults out.new }
+{
+    match out.put(b"runaway\n") {
+        Ok(()) => Ok(false),
+        Err(_) => Err(Fault::Write),
+    }
+}
+
+// The bytes before the first zero.
+fn before_zero(bytes: &[u8]) -> &[u8]
+    ensures { result.now ≡ until_zero bytes.now }
+{
+    match first_zero(bytes) {
+        Some(end) => &bytes[..end],
+        None => bytes,
+    }
+}
+
+fn first_zero(bytes: &[u8]) -> Option<usize>
+    ensures { result ≡ position (λ byte. byte == 0) bytes.now }
+{
+    bytes.iter().position(|byte| *byte == 0)
+}
+
+fn put_executed<O: Sink>(out: &mut O, name: &[u8], inserted: bool) -> Result<Next, Fault>
+    ensures replies { Replies (exec_text name.now inserted) Next.Goes result (O.got out.old) (O.got out.new) }
+    ensures write { OnErr result (Rose (O.sink_faults out.old) (O.sink_faults out.new)) }
+    ensures faults { O.sink_faults out.old ≤ O.sink_faults out.new }
+{
+    reply(
+        out,
+        Next::Goes,
+        &[
+            Piece::Text(b"execing "),
+            Piece::Text(name),
+            Piece::Text(b"\n"),
+            Piece::Text(if inserted { b"" } else { b"overflow\n" }),
+        ],
+    )
+}
+
+// Each word after the first and a space, and a newline.
+fn put_echo<O: Sink>(words: &Words<'_>, out: &mut O) -> Result<Next, Fault>
+    ensures replies { Replies (spaced (drop 1 (words_of words.now.text.now))) Next.Goes result (O.got out.old) (O.got out.new) }
+    ensures write { OnErr result (Rose (O.sink_faults out.old) (O.sink_faults out.new)) }
+    ensures faults { O.sink_faults out.old ≤ O.sink_faults out.new }
+{
+    for number in 1..words.count() {
+        if let Err(_) = put_all(out, &[Piece::Text(words.word(number)), Piece::Text(b" ")]) {
+            return Err(Fault::Write);
+        }
+    }
+    reply(out, Next::Goes, &[Piece::Text(b"\n")])
+}
