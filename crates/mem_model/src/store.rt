@@ -25,7 +25,8 @@ pub trait Store: Drop {
     /// Allocates `size` zero bytes at the end of the low hunk, with the first 8 bytes of a name, and answers their
     /// place. The block takes `size` rounded up to a multiple of 16, and a header of 16.
     ///
-    /// `NoRoom` tells that need and the room where it is less. After an error the store is as before.
+    /// `NoRoom` tells that need and the room where it is less; it adds its event where events are kept, and changes
+    /// nothing else. Want of memory changes nothing.
     fn low_alloc(&mut self, size: u64, name: &[u8]) -> Result<Place, RoomError>
         requires size { size ≤ 2 ^ 62 }
         requires name { IsText name.now }
