@@ -1,0 +1,62 @@
+//! The program: the console over folders of the host, standard input and standard output.
+#![tactic(auto)]
+
+ghost use Rattle.std.specs.Prelude.{◌≡◌};
+ghost use Rattle.std.specs.Process.{exit_status};
+ghost use Rattle.console_core.specs.Ends.{code_of};
+
+mod folder;
+mod streams;
+
+use console_core::{Status, exit_code, quake_main, status_line};
+use folder::DirFolder;
+use outside_io::Folder;
+use std::env;
+use std::io::ErrorKind;
+use std::process::ExitCode;
+use streams::{StdinSource, StdoutSink};
+
+#[cfg(test)]
+mod tests;
+
+// The exit code of a run that ended so. Where it isn't 0, the run's line is printed to standard error.
+fn report(rt: &HostRuntime, status: &Status) -> ExitCode
+    ensures { exit_status result ≡ code_of status.now }
+{
+    let code = exit_code(status);
+    if code != 0 {
+        // Where standard error takes nothing, the code still tells.
+        let _ = rt.eprintln(status_line(status).as_str());
+    }
+    ExitCode::from(code)
+}
+
+fn main(rt: HostRuntime) -> ExitCode {
+    let alloc = rt.alloc();
+    let args = match env::args(&rt) {
+        Ok(args) => args,
+        Err(error) if error.kind() == ErrorKind::OutOfMemory => {
+            return report(&rt, &Status::OutOfMemory);
+        }
+        // A word is no text. No option has such a word, and paths of the host are text here, so it can't name a folder
+        // either: the command line is faulty. Which word it is isn't known, nor printed.
+        Err(_) => return report(&rt, &Status::Usage { word: 0 }),
+    };
+    let mut words: Vec<String> = Vec::new(alloc);
+    let mut folders: Vec<Box<dyn Folder>> = Vec::new(alloc);
+    for word in args.skip(1) {
+        let Ok(folder) = DirFolder::create(alloc, rt, word.as_str()) else {
+            return report(&rt, &Status::OutOfMemory);
+        };
+        let Ok(folder) = Box::new(alloc, folder) else {
+            return report(&rt, &Status::OutOfMemory);
+        };
+        if folders.push(folder).is_err() || words.push(word).is_err() {
+            return report(&rt, &Status::OutOfMemory);
+        }
+    }
+    let mut script = StdinSource::new(rt.stdin());
+    let mut out = StdoutSink::new(rt.stdout());
+    let status = quake_main(alloc, &words, folders, &mut script, &mut out);
+    report(&rt, &status)
+}

@@ -1,0 +1,99 @@
+// Standard input and standard output.
+ghost use Rattle.std.specs.Prelude.{◌≡◌, ◌≤◌, ◌<◌, ℕ, OnOk, OnErr, length, take};
+ghost use Rattle.std.specs.Io.KnownBytes.{Appends};
+
+use outside_io::{Sink, SinkFailed, Source, SourceFailed};
+use std::io;
+use std::io::{ErrorKind, Read, Stdin, Stdout, Write};
+
+/// Standard input. It tells no bytes, and counts its faults: the reads that the host failed.
+#[derive(Drop)]
+pub struct StdinSource {
+    input: Stdin,
+    faults: u64,
+}
+
+impl StdinSource {
+    pub fn new(input: Stdin) -> StdinSource
+        ensures { result.faults ≡ 0 }
+    {
+        StdinSource { input, faults: 0 }
+    }
+}
+
+impl Source for StdinSource {
+    ghost use Rattle.std.specs.Prelude.{◌≡◌, ◌≤◌, ◌<◌, None, IfOk, length};
+    ghost use Rattle.outside_io.specs.Causes.{after_call};
+
+    ghost rest = { λ source. None };
+
+    ghost source_faults = { λ source. source.faults };
+
+    fn read(&mut self, into: &mut [u8]) -> Result<usize, SourceFailed>
+        requires { 0 < length into.old }
+        ensures within { IfOk result (λ n. n ≤ length into.new) }
+        ensures faults { self.new.faults ≡ after_call result self.old.faults }
+    {
+        match self.input.read(into) {
+            Ok(n) => Ok(n),
+            Err(_) => {
+                self.faults = self.faults.saturating_add(1);
+                Err(SourceFailed)
+            }
+        }
+    }
+}
+
+/// Standard output. It tells no bytes, and counts its faults: the puts that the host failed.
+///
+/// A piece is written at once, since std keeps no bytes of this stream back: nothing is lost where the program ends, and
+/// after a fault the host has a front of what was put.
+#[derive(Drop)]
+pub struct StdoutSink {
+    output: Stdout,
+    faults: u64,
+}
+
+impl StdoutSink {
+    pub fn new(output: Stdout) -> StdoutSink
+        ensures { result.faults ≡ 0 }
+    {
+        StdoutSink { output, faults: 0 }
+    }
+}
+
+impl Sink for StdoutSink {
+    ghost use Rattle.std.specs.Prelude.{◌≡◌, None};
+    ghost use Rattle.outside_io.specs.Causes.{after_call};
+
+    ghost got = { λ sink. None };
+
+    ghost sink_faults = { λ sink. sink.faults };
+
+    fn put(&mut self, piece: &[u8]) -> Result<(), SinkFailed>
+        ensures faults { self.new.faults ≡ after_call result self.old.faults }
+    {
+        match put_whole(&mut self.output, piece) {
+            Ok(()) => Ok(()),
+            Err(_) => {
+                self.faults = self.faults.saturating_add(1);
+                Err(SinkFailed)
+            }
+        }
+    }
+}
+
+// Writes the whole piece. After an error a front of it was written.
+pub(crate) fn put_whole<W: Write>(to: &mut W, piece: &[u8]) -> io::Result<()>
+    ensures whole { OnOk result (Appends (W.contents to.old) (W.contents to.new) piece.now) }
+    ensures front { OnErr result ((n : ℕ) × (n ≤ length piece.now) × Appends (W.contents to.old) (W.contents to.new) (take n piece.now)) }
+{
+    let mut written = 0;
+    'put: while written < piece.len() {
+        match to.write(&piece[written..])? {
+            0 => return Err(io::Error::from(ErrorKind::WriteZero)),
+            n => written += n,
+        }
+    }
+    Ok(())
+}
