@@ -1,6 +1,6 @@
 -- What keeps a memory laid out.
 use Rattle.std.proofs.Common.{◌≡◌, ℕ, suc, zero, ◌+◌, ◌-◌, ◌≤◌, List, [], ◌∷◌, ◌++◌, true, false, length, take, refl, ap, ◌∙◌, arith, eqb, cond, length-append, length-drop, length-take}
-use Rattle.std.specs.Prelude.{◌^◌, ◌≢◌}
+use Rattle.std.specs.Prelude.{◌^◌, ◌≢◌, ◌<◌}
 use Rattle.std.proofs.lemmas.List.{drop_all, take_at, length-replicate}
 use Rattle.std.proofs.lemmas.List.Elements.{All-take}
 use Rattle.std.specs.List.{AllByRecursion}
@@ -144,5 +144,48 @@ Laid-with_low_bytes m place bytes laid = record {
   temp = laid.temp;
   zone = rw (first-with_bytes_above m.low place bytes) laid.zone;
   cache = rw (size_of-with_bytes_above m.low place bytes) laid.cache;
+  events = laid.events;
+}
+
+-- the oldest blocks of a row
+size_of-take : (n : ℕ) (blocks : List HunkBlock) → size_of (take n blocks) ≤ size_of blocks
+size_of-take zero blocks = omega arith
+size_of-take (suc n) [] = omega arith
+size_of-take (suc n) (b ∷ bs) = omega (arith, size_of-take n bs)
+
+all-take : {X : Type 0} (P : X → Type 0) (n : ℕ) (xs : List X) → AllByRecursion P xs → AllByRecursion P (take n xs)
+all-take P zero xs p = tt
+all-take P (suc n) [] p = tt
+all-take P (suc n) (x ∷ xs) p = (p.0, all-take P n xs p.1)
+
+pub low-take : (n : ℕ) (low : List HunkBlock) → 0 < n → AreLowBlocks low → AreLowBlocks (take n low)
+low-take zero low some p = absurd (omega arith)
+low-take (suc n) [] some p = absurd p
+low-take (suc n) (zone ∷ blocks) some p = (p.0, all-take IsHunkBlock n blocks p.1)
+
+first_size-take : (n : ℕ) (low : List HunkBlock) → 0 < n → first_size (take n low) ≡ first_size low
+first_size-take zero low some = absurd (omega arith)
+first_size-take (suc n) [] some = refl
+first_size-take (suc n) (zone ∷ blocks) some = refl
+
+between_lower : (blocks : List CacheBlock) (low bottom top : ℕ) → low ≤ bottom → AreBetween bottom top blocks → AreBetween low top blocks
+between_lower [] low bottom top h p = omega (arith, p)
+between_lower (b ∷ bs) low bottom top h p = (omega (arith, p.0), p.1)
+
+-- a memory is laid out when its newest low blocks leave
+pub Laid-with_fewer : (m : Memory) (n : ℕ) → 0 < n → Laid m → Laid (record m { low = take n m.low })
+Laid-with_fewer m n some laid = record {
+  small = laid.small;
+  inside = omega (arith, size_of-take n m.low, laid.inside);
+  low = low-take n m.low some laid.low;
+  high = laid.high;
+  temp = laid.temp;
+  zone = rw (first_size-take n m.low some) laid.zone;
+  cache = record {
+    blocks = laid.cache.blocks;
+    between = between_lower m.cache.blocks (size_of (take n m.low)) (low_used m) (high_start m) (size_of-take n m.low) laid.cache.between;
+    one_each = laid.cache.one_each;
+    recency = laid.cache.recency;
+  };
   events = laid.events;
 }

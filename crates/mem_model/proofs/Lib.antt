@@ -1,6 +1,7 @@
 mod Examples
 pub mod Positions
 pub mod Laying
+pub mod Cuts
 pub mod Calling
 pub mod Laws
 pub mod Pushes

@@ -1,10 +1,17 @@
 -- Where a plain store's vectors have what is looked for.
-use Rattle.std.specs.Prelude.{ℕ, ◌≡◌, ◌<◌, List, Some, length, slice_get, slice_set}
+use Rattle.std.specs.Prelude.{ℕ, ◌≡◌, ◌<◌, List, Some, length, slice_get, slice_set, take}
 use Rattle.mem_model.specs.Blocks.{HunkBlock}
-use Rattle.mem_model.specs.Hunk.{bytes_above, with_bytes_above, with_bytes}
+use Rattle.mem_model.specs.Memory.{size_of}
+use Rattle.mem_model.specs.Hunk.{bytes_above, with_bytes_above, with_bytes, cut_above}
 
 -- The block of this payload's place is that at position i.
 pub record IsAt (blocks : List HunkBlock) (place i : ℕ) : Type 0 where
   pub inside : i < length blocks
   pub reads : (b : HunkBlock) → slice_get blocks i ≡ Some b → bytes_above blocks place ≡ Some b.bytes
   pub writes : (b : HunkBlock) (bytes : List ℕ) → slice_get blocks i ≡ Some b → with_bytes_above blocks place bytes ≡ slice_set blocks i (with_bytes b bytes)
+
+-- The mark keeps the first n blocks, which end there.
+pub record IsCut (blocks : List HunkBlock) (mark n : ℕ) : Type 0 where
+  pub some : 0 < n
+  pub kept : cut_above blocks mark ≡ Some (take n blocks)
+  pub ends : size_of (take n blocks) ≡ mark

@@ -2,6 +2,7 @@
 use Rattle.std.specs.Prelude.{ℕ, Option, Some, None, Result, Ok, Err}
 use Rattle.mem_model.specs.Event.{Shortage}
 use Rattle.mem_model.specs.declared.answers.Place.{Place}
+use Rattle.mem_model.specs.declared.answers.BadMark.{BadMark}
 use Rattle.mem_model.specs.declared.answers.RoomError.{RoomError}
 use Rattle.mem_model.specs.declared.answers.RoomError.TheVariants as room_error
 
@@ -9,3 +10,7 @@ abbrev pub room_answer : Result Place RoomError → Option (Result ℕ Shortage)
 room_answer (Ok place) = Some (Ok place.0)
 room_answer (Err (room_error.NoRoom asked room)) = Some (Err (record { asked = asked; room = room }))
 room_answer (Err room_error.OutOfMemory) = None
+
+abbrev pub mark_answer : Result (Unit {0}) BadMark → Result (Unit {0}) ℕ
+mark_answer (Ok done) = Ok done
+mark_answer (Err bad) = Err bad.mark

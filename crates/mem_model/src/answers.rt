@@ -14,6 +14,12 @@ pub enum RoomError {
     OutOfMemory,
 }
 
+/// A mark that is the end of neither the zone's block nor a block above it.
+#[derive(Clone, Copy, Debug, PartialEq, Eq)]
+pub struct BadMark {
+    pub mark: u32,
+}
+
 /// Why a store was not made.
 #[derive(Clone, Copy, Debug, PartialEq, Eq)]
 pub enum StoreStart {

@@ -1,13 +1,13 @@
 //! A store over vectors.
 
-ghost use Rattle.std.specs.Prelude.{◌≡◌, ◌<◌, ◌≤◌, ◌^◌, ◌↔◌, IfOk, Err, IsSome};
+ghost use Rattle.std.specs.Prelude.{◌≡◌, ◌<◌, ◌≤◌, ◌^◌, ◌↔◌, IfOk, Err, IsSome, MatchOption, None};
 ghost use Rattle.mem_model.specs.Memory.{new_memory, size_of};
-ghost use Rattle.mem_model.specs.Hunk.{bytes_above};
+ghost use Rattle.mem_model.specs.Hunk.{bytes_above, cut_above};
 ghost use Rattle.mem_model.specs.Places.{hunk_need};
-ghost use Rattle.mem_model.specs.Plain.{IsAt};
+ghost use Rattle.mem_model.specs.Plain.{IsAt, IsCut};
 ghost use Rattle.mem_model.specs.Laid.{IsMultiple, AreLowBlocks};
 
-use crate::answers::{Place, RoomError, StoreStart};
+use crate::answers::{BadMark, Place, RoomError, StoreStart};
 use crate::cells::{CacheCell, HunkCell, ZoneCell, add};
 use crate::store::Store;
 use std::alloc::Global;
@@ -71,6 +71,21 @@ fn position_at(cells: &[HunkCell], used: u32, place: u32) -> usize
     unreachable!()
 }
 
+// How many blocks a mark keeps, the zone's among them. It looks from the newest, since marks are often near the end.
+fn kept_by(cells: &[HunkCell], used: u32, mark: u32) -> Option<usize>
+    requires used { used ≡ size_of cells.now }
+    requires laid { AreLowBlocks cells.now }
+    ensures { MatchOption result (cut_above cells.now mark ≡ None) (λ n. IsCut cells.now mark n) }
+{
+    let mut end = used;
+    let mut kept = cells.len();
+    while mark < end && 1 < kept {
+        kept -= 1;
+        end -= cells[kept].size();
+    }
+    if end == mark { Some(kept) } else { None }
+}
+
 impl PlainStore {
     /// A store of `size` bytes with a zone of `zone` bytes, all free, and an empty cache for this many users.
     ///
@@ -132,6 +147,15 @@ impl Store for PlainStore {
 
     fn low_mark(&self) -> u32 {
         self.low_used
+    }
+
+    fn low_free(&mut self, mark: u32) -> Result<(), BadMark> {
+        let Some(kept) = kept_by(&self.low, self.low_used, mark) else {
+            return Err(BadMark { mark });
+        };
+        self.low.truncate(kept);
+        self.low_used = mark;
+        Ok(())
     }
 
     fn low_bytes(&self, place: Place) -> &[u8] {

@@ -3,13 +3,13 @@
 ghost use Rattle.std.specs.Prelude.{◌≡◌, ℕ, ◌≤◌, ◌^◌, List, Bool, Some, IsSome};
 ghost use Rattle.std.specs.Borrow.{sem, Lends, u8 as byte, Array};
 ghost use Rattle.mem_model.specs.Memory.{Memory, low_used, room};
-ghost use Rattle.mem_model.specs.Answer.{Gives};
-ghost use Rattle.mem_model.specs.Told.{room_answer};
-ghost use Rattle.mem_model.specs.Operations.{low_alloc};
+ghost use Rattle.mem_model.specs.Answer.{Answers, Gives};
+ghost use Rattle.mem_model.specs.Told.{room_answer, mark_answer};
+ghost use Rattle.mem_model.specs.Operations.{low_alloc, low_free};
 ghost use Rattle.mem_model.specs.Hunk.{low_bytes, with_low_bytes};
 ghost use Rattle.mem_model.specs.Laid.{Laid, IsText};
 
-use crate::answers::{Place, RoomError};
+use crate::answers::{BadMark, Place, RoomError};
 
 /// A keeper of one arena. A block is known by the place of its payload. Sizes, places and marks are in bytes.
 pub trait Store: Drop {
@@ -32,6 +32,15 @@ pub trait Store: Drop {
         requires name { IsText name.now }
         ensures gives { Gives (low_alloc (state self.old) size name.now) frugal (state self.old)
             (room_answer result) (state self.new) }
+        ensures was_laid { Laid (state self.old) }
+        ensures laid { Laid (state self.new) };
+
+    /// Frees the blocks of the low hunk above a mark, which is where the zone's block ends or one above it, as
+    /// `low_mark` told once.
+    ///
+    /// Any other mark is a `BadMark`, and the store is as before.
+    fn low_free(&mut self, mark: u32) -> Result<(), BadMark>
+        ensures gives { Answers (low_free (state self.old) mark) (mark_answer result) (state self.new) }
         ensures laid { Laid (state self.new) };
 
     /// Where the low hunk ends: the sizes of its blocks, added up.
