@@ -1,4 +1,6 @@
+pub mod Executing
 pub mod Following
+pub mod Framing
+pub mod Lining
 pub mod Loading
-pub mod Running
-pub mod Telling
+pub mod Shortening

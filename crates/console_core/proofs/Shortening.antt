@@ -1,6 +1,6 @@
 -- A line is the same as its first 8192 bytes, which are more than the buffer holds.
 use Prim.Native.Nat.{zero, suc}
-use Rattle.std.proofs.Common.{◌≡◌, ℕ, ◌+◌, ◌<◌, ◌≤◌, List, [], ◌∷◌, ◌++◌, length, take, drop, Bool, true, false, ◌==◌, inl, inr, refl, sym, ◌∙◌, ap, arith, if◌then◌else◌, length-append}
+use Rattle.std.proofs.Common.{◌≡◌, ℕ, ◌+◌, ◌<◌, ◌≤◌, List, [], ◌∷◌, ◌++◌, length, take, drop, Bool, true, false, ◌==◌, inl, inr, refl, sym, ◌∙◌, ap, arith, if◌then◌else◌, length-append, one-add}
 use Rattle.std.specs.Prelude.{nat_le, ◌⊎◌}
 use Rattle.std.proofs.lemmas.Bool.{lt-leb}
 use Rattle.std.proofs.lemmas.Bool.Decides.{eqb_tells}
@@ -37,7 +37,8 @@ cut_same (suc n) (byte ∷ bytes) = elim (eqb_tells byte 0) [
 line_long : (files : List File) (s : State) (text : List ℕ) → 8192 ≤ length (until_zero text) → line files s text ≡ overflowed files s
 unfolding line
 line_long files s text long =
-    let no_room : fits_in (input text) s.buffer ≡ false = lt-leb 8191 (length s.buffer + length (input text)) (omega (arith, length-append (until_zero text) (10 ∷ []))) in
+    let size : length (input text) ≡ length (until_zero text) + 1 = length-append (until_zero text) (10 ∷ []) in
+    let no_room : fits_in (input text) s.buffer ≡ false = lt-leb (length s.buffer + length (input text)) 8191 (omega (arith, size)) in
     ap (λ (t : Bool). if t then frame false files 4096 (record s { buffer = s.buffer ++ input text }) else overflowed files s) no_room
 
 -- a line that has the same bytes before its first zero

@@ -1,6 +1,7 @@
 pub mod Words
-pub mod Lines
+pub mod Mounts
+pub mod States
 pub mod Loads
+pub mod Commands
 pub mod Runs
-pub mod Calls
-pub mod Ends
+pub mod Sessions

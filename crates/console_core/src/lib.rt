@@ -1,15 +1,13 @@
-//! The console: reads a script and answers it line by line.
+//! The console: reads a script, and runs its lines as frames of commands.
 #![tactic(auto)]
 
-mod lines;
+mod ends;
 mod load;
-mod script;
-mod status;
-mod top;
+mod paths;
+mod session;
+mod verbs;
 mod words;
 
-pub use status::{Status, exit_code, status_line};
-pub use top::quake_main;
-
-#[cfg(test)]
-mod tests;
+pub use ends::StepEnd;
+pub use paths::{MountError, Paths};
+pub use session::Session;

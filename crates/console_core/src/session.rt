@@ -1,11 +1,10 @@
 // A session of the console.
-ghost use Rattle.std.specs.Prelude.{◌≡◌, ◌≤◌, ◌++◌, [], length, drop, IfSome, OnOk, OnErr, IfOk, IfErr, IsSomeAnd, take, position, ◌==◌, if◌then◌else◌, false, true, codes};
+ghost use Rattle.std.specs.Prelude.{◌≡◌, ◌<◌, ◌≤◌, ◌++◌, [], length, drop, IfSome, OnOk, OnErr, IfOk, IfErr, IsSomeAnd, take, position, ◌==◌, if◌then◌else◌, false, true, codes};
 ghost use Rattle.outside_io.specs.Causes.{Rose};
 ghost use Rattle.outside_io.specs.Streams.{Adds, AddsFront};
 ghost use Rattle.mem_model.specs.Hunk.{low_bytes};
 ghost use Rattle.mem_model.specs.Operations.{low_free};
 ghost use Rattle.cmd_buffer.specs.Buffer.{text_of_command};
-ghost use Rattle.cmd_buffer.specs.Words.{words_of};
 ghost use Rattle.reply_pieces.specs.Pieces.{text_of};
 ghost use Rattle.console_core.specs.States.{Replies, Follows, HasCauses};
 ghost use Rattle.console_core.specs.Mounts.{told_files, count_of};
@@ -126,7 +125,7 @@ impl<M: Store, F: Folder> Session<M, F> {
     }
 
     fn file<O: Sink>(&mut self, words: &Words<'_>, out: &mut O) -> Result<Next, Fault>
-        ensures told { IfSome (told_files F.files self.old.paths) (λ files. Follows (answer_file files (state_of M.state self.old) (words_of words.now.text.now)) result (state_of M.state self.new) (O.got out.old) (O.got out.new)) }
+        ensures told { IfSome (told_files F.files self.old.paths) (λ files. Follows (answer_file files (state_of M.state self.old) words.now) result (state_of M.state self.new) (O.got out.old) (O.got out.new)) }
         ensures files { told_files F.files self.new.paths ≡ told_files F.files self.old.paths }
         ensures causes { HasCauses M.frugal (count_of F.folder_faults self.old.paths) (count_of F.folder_faults self.new.paths) (O.sink_faults out.old) (O.sink_faults out.new) result }
     {
@@ -197,7 +196,7 @@ impl<M: Store, F: Folder> Session<M, F> {
     }
 
     fn exec<O: Sink>(&mut self, words: &Words<'_>, out: &mut O) -> Result<Next, Fault>
-        ensures told { IfSome (told_files F.files self.old.paths) (λ files. Follows (answer_exec files (state_of M.state self.old) (words_of words.now.text.now)) result (state_of M.state self.new) (O.got out.old) (O.got out.new)) }
+        ensures told { IfSome (told_files F.files self.old.paths) (λ files. Follows (answer_exec files (state_of M.state self.old) words.now) result (state_of M.state self.new) (O.got out.old) (O.got out.new)) }
         ensures files { told_files F.files self.new.paths ≡ told_files F.files self.old.paths }
         ensures causes { HasCauses M.frugal (count_of F.folder_faults self.old.paths) (count_of F.folder_faults self.new.paths) (O.sink_faults out.old) (O.sink_faults out.new) result }
     {
@@ -205,7 +204,7 @@ impl<M: Store, F: Folder> Session<M, F> {
     }
 
     fn echo<O: Sink>(&mut self, words: &Words<'_>, out: &mut O) -> Result<Next, Fault>
-        ensures told { IfSome (told_files F.files self.old.paths) (λ files. Follows (answer_echo (state_of M.state self.old) (words_of words.now.text.now)) result (state_of M.state self.new) (O.got out.old) (O.got out.new)) }
+        ensures told { IfSome (told_files F.files self.old.paths) (λ files. Follows (answer_echo (state_of M.state self.old) words.now) result (state_of M.state self.new) (O.got out.old) (O.got out.new)) }
         ensures files { told_files F.files self.new.paths ≡ told_files F.files self.old.paths }
         ensures causes { HasCauses M.frugal (count_of F.folder_faults self.old.paths) (count_of F.folder_faults self.new.paths) (O.sink_faults out.old) (O.sink_faults out.new) result }
     {
@@ -229,7 +228,7 @@ impl<M: Store, F: Folder> Session<M, F> {
     }
 
     fn unknown<O: Sink>(&mut self, words: &Words<'_>, out: &mut O) -> Result<Next, Fault>
-        ensures told { IfSome (told_files F.files self.old.paths) (λ files. Follows (unknown (state_of M.state self.old) (words_of words.now.text.now)) result (state_of M.state self.new) (O.got out.old) (O.got out.new)) }
+        ensures told { IfSome (told_files F.files self.old.paths) (λ files. Follows (unknown (state_of M.state self.old) words.now) result (state_of M.state self.new) (O.got out.old) (O.got out.new)) }
         ensures files { told_files F.files self.new.paths ≡ told_files F.files self.old.paths }
         ensures causes { HasCauses M.frugal (count_of F.folder_faults self.old.paths) (count_of F.folder_faults self.new.paths) (O.sink_faults out.old) (O.sink_faults out.new) result }
     {
@@ -243,7 +242,7 @@ impl<M: Store, F: Folder> Session<M, F> {
         words: &Words<'_>,
         out: &mut O,
     ) -> Result<Next, Fault>
-        ensures told { IfSome (told_files F.files self.old.paths) (λ files. Follows (by_verb files (state_of M.state self.old) (words_of words.now.text.now) verb) result (state_of M.state self.new) (O.got out.old) (O.got out.new)) }
+        ensures told { IfSome (told_files F.files self.old.paths) (λ files. Follows (by_verb files (state_of M.state self.old) words.now verb) result (state_of M.state self.new) (O.got out.old) (O.got out.new)) }
         ensures files { told_files F.files self.new.paths ≡ told_files F.files self.old.paths }
         ensures causes { HasCauses M.frugal (count_of F.folder_faults self.old.paths) (count_of F.folder_faults self.new.paths) (O.sink_faults out.old) (O.sink_faults out.new) result }
     {
@@ -258,7 +257,7 @@ impl<M: Store, F: Folder> Session<M, F> {
     }
 
     fn run_words<O: Sink>(&mut self, words: &Words<'_>, out: &mut O) -> Result<Next, Fault>
-        ensures told { IfSome (told_files F.files self.old.paths) (λ files. Follows (by_words files (state_of M.state self.old) (words_of words.now.text.now)) result (state_of M.state self.new) (O.got out.old) (O.got out.new)) }
+        ensures told { IfSome (told_files F.files self.old.paths) (λ files. Follows (by_words files (state_of M.state self.old) words.now) result (state_of M.state self.new) (O.got out.old) (O.got out.new)) }
         ensures files { told_files F.files self.new.paths ≡ told_files F.files self.old.paths }
         ensures causes { HasCauses M.frugal (count_of F.folder_faults self.old.paths) (count_of F.folder_faults self.new.paths) (O.sink_faults out.old) (O.sink_faults out.new) result }
     {
@@ -471,7 +470,7 @@ fn put_executed<O: Sink>(out: &mut O, name: &[u8], inserted: bool) -> Result<Nex
 
 // Each word after the first and a space, and a newline.
 fn put_echo<O: Sink>(words: &Words<'_>, out: &mut O) -> Result<Next, Fault>
-    ensures replies { Replies (spaced (drop 1 (words_of words.now.text.now))) Next.Goes result (O.got out.old) (O.got out.new) }
+    ensures replies { Replies (spaced (drop 1 words.now)) Next.Goes result (O.got out.old) (O.got out.new) }
     ensures write { OnErr result (Rose (O.sink_faults out.old) (O.sink_faults out.new)) }
     ensures faults { O.sink_faults out.old ≤ O.sink_faults out.new }
 {

@@ -2,7 +2,6 @@ use Rattle.std.proofs.Common.{◌<◌, ◌≤◌, ◌+◌, ℕ, List, [], ◌∷
 use Rattle.std.proofs.lemmas.List.{drop_more, drop_all}
 use Rattle.outside_io.specs.Streams.{Adds, AddsFront}
 use Rattle.outside_io.proofs.Puts.{PutSoFar, one_put, front_put, all_put}
-use Rattle.cmd_buffer.specs.Words.{words_of}
 use Rattle.console_core.specs.States.{Replies}
 use Rattle.console_core.specs.Commands.{spaced}
 use Rattle.console_core.specs.declared.ends.Next.{Next}
@@ -29,7 +28,7 @@ module _ (words : List (List ℕ)) (i : ℕ) (start mid now : Option (List ℕ))
 
 pub loop-number-preserved : goal.loop-number-preserved
 loop-number-preserved g c =
-    let words = words_of c.args.words.now.text.now in
+    let words = c.args.words.now in
     record {
       put = more words c.loop-number.number _ _ _ c.loop-number.invariant.put (omega arith) (rw c.word.ensures at c.in_default.ensures.added);
       faults = omega arith;
@@ -37,10 +36,10 @@ loop-number-preserved g c =
 
 pub returns-in-Err-clause-replies : goal.returns-in-Err-clause-replies
 returns-in-Err-clause-replies g c =
-    let words = words_of c.args.words.now.text.now in
+    let words = c.args.words.now in
     (refl, cut words c.loop-number.number _ _ _ c.loop-number.invariant.put (omega arith) (rw c.word.ensures at c.in-Err.ensures.part))
 
 pub returns-clause-replies : goal.returns-clause-replies
 returns-clause-replies g c =
-    let words = words_of c.args.words.now.text.now in
+    let words = c.args.words.now in
     ended words c.loop-number.number _ _ _ c.loop-number.invariant.put (omega arith) _ c.reply.ensures.replies

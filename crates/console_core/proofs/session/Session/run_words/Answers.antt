@@ -1,4 +1,3 @@
-use Rattle.cmd_buffer.specs.Words.{words_of}
 use Rattle.console_core.specs.Mounts.{told_files}
 use Rattle.console_core.specs.Commands.{by_words}
 use Rattle.console_core.specs.Sessions.{state_of}
@@ -7,5 +6,5 @@ use Rattle.console_core.proofs.session.Session.run_words.Goals as goal
 
 pub returns-clause-told : goal.returns-clause-told
 returns-clause-told g c = of_files (told_files g.F.Folder.files c.args.self.now.paths) c.run_verb.ensures.told (λ files follows.
-    same_did (by_words files (state_of g.M.Store.state c.args.self.now) (words_of c.args.words.now.text.now)) _ _ _ _ _
-    (by_words_is files (state_of g.M.Store.state c.args.self.now) (words_of c.args.words.now.text.now) _ _ _ c.count.ensures c.if-count-eq0.false c.word.ensures c.find_verb.ensures) follows)
+    same_did (by_words files (state_of g.M.Store.state c.args.self.now) c.args.words.now) _ _ _ _ _
+    (by_words_is files (state_of g.M.Store.state c.args.self.now) c.args.words.now _ _ _ c.count.ensures.value c.if-count-eq0.false c.word.ensures c.find_verb.ensures) follows)

@@ -1,5 +1,4 @@
 use Rattle.std.proofs.Common.{ap, sym, List, ℕ}
-use Rattle.cmd_buffer.specs.Words.{words_of}
 use Rattle.console_core.specs.Mounts.{told_files}
 use Rattle.console_core.specs.Commands.{unknown, unknown_word}
 use Rattle.console_core.specs.Sessions.{state_of}
@@ -8,5 +7,5 @@ use Rattle.console_core.proofs.session.Session.unknown.Goals as goal
 
 pub returns-clause-told : goal.returns-clause-told
 returns-clause-told g c = of_files (told_files g.F.Folder.files c.args.self.now.paths) c.unknown_word.ensures.told (λ files follows.
-    same_did (unknown (state_of g.M.Store.state c.args.self.now) (words_of c.args.words.now.text.now)) (unknown_word (state_of g.M.Store.state c.args.self.now) c.word.result.now) _ _ _ _
+    same_did (unknown (state_of g.M.Store.state c.args.self.now) c.args.words.now) (unknown_word (state_of g.M.Store.state c.args.self.now) c.word.result.now) _ _ _ _
     (ap (λ (word : List ℕ). unknown_word (state_of g.M.Store.state c.args.self.now) word) (sym c.word.ensures)) follows)

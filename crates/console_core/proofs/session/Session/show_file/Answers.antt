@@ -1,0 +1,18 @@
+use Rattle.std.proofs.Common.{ap, refl, List, ℕ}
+use Rattle.mem_model.specs.Memory.{Memory}
+use Rattle.console_core.specs.Mounts.{told_files}
+use Rattle.console_core.specs.States.{State}
+use Rattle.console_core.specs.Loads.{Missing, load_low}
+use Rattle.console_core.specs.Commands.{filed, file_text}
+use Rattle.console_core.specs.Sessions.{state_of}
+use Rattle.console_core.specs.declared.ends.Next.TheVariants.{Goes}
+use Rattle.console_core.proofs.Following.{of_files, follow}
+use Rattle.console_core.proofs.session.Session.show_file.Goals as goal
+
+pub returns-in-Err-NotFound-clause-told : goal.returns-in-Err-NotFound-clause-told
+returns-in-Err-NotFound-clause-told g c =
+    let s = state_of g.M.Store.state c.args.self.now in
+    let state : Memory → State = λ (m : Memory). record s { memory = m } in
+    of_files (told_files g.F.Folder.files c.args.self.now.paths) (rw c.in-Err-NotFound.field-0-is at c.in-Err-NotFound.ensures.told) (λ files is.
+    follow (filed s c.args.name.now (load_low files (g.M.Store.state c.args.self.now.store) c.args.name.now)) (file_text c.args.name.now Missing) Goes _ _ _ _
+    (ap (file_text c.args.name.now) is.load) refl (ap state is.after) (rw c.bytes-in-Err-NotFound.ensures.value at c.reply-in-Err-NotFound.ensures.replies))

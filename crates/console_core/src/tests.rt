@@ -1,1 +1,0 @@
-// Runs of the top call.
