@@ -4,3 +4,4 @@ pub mod Framing
 pub mod Lining
 pub mod Loading
 pub mod Shortening
+pub mod Scripts

@@ -5,3 +5,4 @@ pub mod Loads
 pub mod Commands
 pub mod Runs
 pub mod Sessions
+pub mod Reading

@@ -4,6 +4,7 @@
 mod ends;
 mod load;
 mod paths;
+mod script;
 mod session;
 mod verbs;
 mod words;

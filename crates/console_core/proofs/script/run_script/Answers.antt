@@ -1,0 +1,123 @@
+use Rattle.std.proofs.Common.{◌≡◌, ◌+◌, ◌-◌, ◌≤◌, ◌++◌, ◌∙◌, ℕ, List, [], ◌∷◌, length, take, drop, min, Option, IfSome, Ok, Err, true, false, refl, sym, ap, subst, arith, length-append, length-take}
+use Rattle.std.proofs.lemmas.List.{append-nil, take_all, take-append-le}
+use Rattle.outside_io.specs.Files.{File}
+use Rattle.outside_io.specs.Streams.{Took, TakesFront}
+use Rattle.outside_io.proofs.Puts.{adds_none}
+use Rattle.outside_io.proofs.Takes.{took_none}
+use Rattle.console_core.specs.Mounts.{told_files}
+use Rattle.console_core.specs.States.{State}
+use Rattle.console_core.specs.Runs.{run_lines, lines_of, IsRun}
+use Rattle.console_core.specs.Reading.{limit, ReadsPast, HasRead}
+use Rattle.console_core.specs.Sessions.{state_of}
+use Rattle.console_core.specs.declared.script.ReadEnd.{ReadEnd}
+use Rattle.console_core.specs.declared.script.ReadEnd.TheVariants.{AtEnd, Quit, Ended, Failed, TooLong}
+use Rattle.console_core.proofs.Following.{of_files, of_both, always}
+use Rattle.console_core.proofs.Scripts.{is_pending, piece_runs, piece_rest, took_more}
+use Rattle.console_core.proofs.script.run_script.Goals as goal
+
+took_piece : (into tail : List ℕ) (count : ℕ) (mid now : Option (List ℕ)) → count ≤ length into → TakesFront mid now count into → Took (take count (into ++ tail)) mid now
+took_piece into tail count mid now within front = subst (λ p. Took p mid now) (sym (take-append-le count into tail within)) front.taken
+
+took_nothing : (taken : List ℕ) (start mid now : Option (List ℕ)) → Took taken start mid → Took [] mid now → Took taken start now
+took_nothing taken start mid now so_far more = subst (λ t. Took t start now) (append-nil taken) (took_more taken [] start mid now so_far more)
+
+-- the first bytes of those and one more
+first_of : (taken : List ℕ) (byte : ℕ) → length taken ≡ limit → take limit (taken ++ byte ∷ []) ≡ taken
+first_of taken byte size = take-append-le limit taken (byte ∷ []) (omega (arith, size)) ∙ take_all limit taken (omega (arith, size))
+
+-- what the read past the limit leaves
+past_read : (told : Option (List File)) (first after : State) (end : ReadEnd) (taken pending : List ℕ) (start mid now out_start out_now : Option (List ℕ)) → Took taken start mid → length taken ≡ limit → pending ≡ take 8192 (lines_of taken).rest
+    → IfSome told (λ files. IsRun (run_lines files first (lines_of taken).whole) false after out_start out_now) → ReadsPast end mid now → HasRead told first after end pending start now out_start out_now
+past_read told first after AtEnd taken pending start mid now out_start out_now so_far size kept run past =
+    record { taken = taken; took = took_nothing taken start mid now so_far past.0; ends = (omega (arith, size), past.1); keeps = kept; run = run }
+past_read told first after Quit taken pending start mid now out_start out_now so_far size kept run past = absurd past
+past_read told first after (Ended fault) taken pending start mid now out_start out_now so_far size kept run past = absurd past
+past_read told first after Failed taken pending start mid now out_start out_now so_far size kept run past =
+    record { taken = taken; took = took_nothing taken start mid now so_far past; ends = omega (arith, size); keeps = tt; run = run }
+past_read told first after TooLong taken pending start mid now out_start out_now so_far size kept run past = record {
+  taken = taken ++ past.0 ∷ [];
+  took = took_more taken (past.0 ∷ []) start mid now so_far past.1;
+  ends = length-append taken (past.0 ∷ []) ∙ ap (λ (n : ℕ). n + 1) size;
+  keeps = tt;
+  run = of_files told run (λ files ran. subst (λ t. IsRun (run_lines files first (lines_of t).whole) false after out_start out_now) (sym (first_of taken past.0 size)) ran);
+}
+
+piece_fits : (taken into tail : List ℕ) (count left : ℕ) → length taken + left ≡ limit → count ≤ left → length (taken ++ take count (into ++ tail)) ≤ limit
+piece_fits taken into tail count left size fits = omega (arith, length-append taken (take count (into ++ tail)), length-take count (into ++ tail), size, fits)
+
+-- a read into room for what is left takes no more
+read_fits : (into piece : List ℕ) (count most left : ℕ) → count ≤ length into → length into ≡ length (take most piece) → most ≡ min 4096 left → count ≤ left
+read_fits into piece count most left within size most_is = omega (arith, length-take most piece, within, size, most_is)
+
+more_size : (taken into tail : List ℕ) (count left : ℕ) → length taken + left ≡ limit → count ≤ length into → count ≤ left → length (taken ++ take count (into ++ tail)) + (left - count) ≡ limit
+more_size taken into tail count left size within fits =
+    omega (arith, length-append taken (take count (into ++ tail)), length-take count (into ++ tail), length-append into tail, size, within, fits)
+
+pub read-init : goal.read-init
+read-init g c = record {
+  taken = [];
+  took = took_none _;
+  size = refl;
+  told = always (told_files g.F.Folder.files c.args.session.now.paths) (λ files. record { quit = refl; after = refl; put = adds_none _ });
+  rest = c.requires.empty;
+  going = c.requires.going;
+  files = refl;
+  folder_counts = omega arith;
+  sink_counts = omega arith;
+  script_counts = omega arith;
+}
+
+pub feed-requires-clause-pending : goal.feed-requires-clause-pending
+feed-requires-clause-pending g c = is_pending c.read.invariant.taken c.read.pending.items c.read.invariant.rest
+
+pub feed-requires-clause-short : goal.feed-requires-clause-short
+feed-requires-clause-short g c = omega (arith, ap length c.read.invariant.rest, length-take 8192 (lines_of c.read.invariant.taken).rest)
+
+pub returns-in-Ok-true-clause-read : goal.returns-in-Ok-true-clause-read
+returns-in-Ok-true-clause-read g c =
+    let state = state_of g.M.Store.state in
+    let piece = take c.in-Ok.count (c.read-in-read.new.into ++ drop c.min-most.result c.read.piece) in
+    record {
+      taken = c.read.invariant.taken ++ piece;
+      took = took_more c.read.invariant.taken piece _ _ _ c.read.invariant.took (took_piece c.read-in-read.new.into (drop c.min-most.result c.read.piece) c.in-Ok.count _ _ c.in-Ok.ensures.within c.in-Ok.ensures.taken);
+      ends = piece_fits c.read.invariant.taken c.read-in-read.new.into (drop c.min-most.result c.read.piece) c.in-Ok.count c.read.left c.read.invariant.size (read_fits c.read-in-read.new.into c.read.piece c.in-Ok.count c.min-most.result c.read.left c.in-Ok.ensures.within c.read-in-read.auto.into c.min-most.ensures);
+      keeps = tt;
+      run = of_both (told_files g.F.Folder.files c.args.session.now.paths) c.read.invariant.told (rw c.read.invariant.files at (rw c.in-Ok-true.field-0-test at c.in-Ok-true.ensures.told)) (λ files so_far quits.
+          piece_runs files (state c.args.session.now) (state c.read.session) (state c.feed.new.session) c.read.invariant.taken piece c.read.pending.items (Ok true) _ _ _ so_far c.read.invariant.rest quits);
+    }
+
+pub returns-in-Err-clause-read : goal.returns-in-Err-clause-read
+returns-in-Err-clause-read g c =
+    let state = state_of g.M.Store.state in
+    let piece = take c.in-Ok.count (c.read-in-read.new.into ++ drop c.min-most.result c.read.piece) in
+    record {
+      taken = c.read.invariant.taken ++ piece;
+      took = took_more c.read.invariant.taken piece _ _ _ c.read.invariant.took (took_piece c.read-in-read.new.into (drop c.min-most.result c.read.piece) c.in-Ok.count _ _ c.in-Ok.ensures.within c.in-Ok.ensures.taken);
+      ends = piece_fits c.read.invariant.taken c.read-in-read.new.into (drop c.min-most.result c.read.piece) c.in-Ok.count c.read.left c.read.invariant.size (read_fits c.read-in-read.new.into c.read.piece c.in-Ok.count c.min-most.result c.read.left c.in-Ok.ensures.within c.read-in-read.auto.into c.min-most.ensures);
+      keeps = tt;
+      run = of_both (told_files g.F.Folder.files c.args.session.now.paths) c.read.invariant.told (rw c.read.invariant.files at c.in-Err.ensures.told) (λ files so_far fails.
+          piece_runs files (state c.args.session.now) (state c.read.session) (state c.feed.new.session) c.read.invariant.taken piece c.read.pending.items (Err c.in-Err.fault) _ _ _ so_far c.read.invariant.rest fails);
+    }
+
+pub read-preserved : goal.read-preserved
+read-preserved g c =
+    let state = state_of g.M.Store.state in
+    let piece = take c.in-Ok.count (c.read-in-read.new.into ++ drop c.min-most.result c.read.piece) in
+    record {
+      taken = c.read.invariant.taken ++ piece;
+      took = took_more c.read.invariant.taken piece _ _ _ c.read.invariant.took (took_piece c.read-in-read.new.into (drop c.min-most.result c.read.piece) c.in-Ok.count _ _ c.in-Ok.ensures.within c.in-Ok.ensures.taken);
+      size = more_size c.read.invariant.taken c.read-in-read.new.into (drop c.min-most.result c.read.piece) c.in-Ok.count c.read.left c.read.invariant.size c.in-Ok.ensures.within (read_fits c.read-in-read.new.into c.read.piece c.in-Ok.count c.min-most.result c.read.left c.in-Ok.ensures.within c.read-in-read.auto.into c.min-most.ensures);
+      told = of_both (told_files g.F.Folder.files c.args.session.now.paths) c.read.invariant.told (rw c.read.invariant.files at (rw c.in-Ok-false.field-0-test at c.in-Ok-false.ensures.told)) (λ files so_far goes.
+          piece_runs files (state c.args.session.now) (state c.read.session) (state c.feed.new.session) c.read.invariant.taken piece c.read.pending.items (Ok false) _ _ _ so_far c.read.invariant.rest goes);
+      rest = piece_rest [] c.read.invariant.taken piece c.read.pending.items c.feed.new.pending.items (state c.args.session.now) c.read.invariant.rest (c.in-Ok-false.ensures.rest (ap Ok c.in-Ok-false.field-0-test));
+      going = c.in-Ok-false.ensures.going (ap Ok c.in-Ok-false.field-0-test);
+      files = c.in-Ok-false.ensures.files ∙ c.read.invariant.files;
+      folder_counts = omega (arith, c.read.invariant.folder_counts, c.in-Ok-false.ensures.causes.folder_counts);
+      sink_counts = omega (arith, c.read.invariant.sink_counts, c.in-Ok-false.ensures.causes.sink_counts);
+      script_counts = omega (arith, c.read.invariant.script_counts, c.in-Ok.ensures.cause.never_falls);
+    }
+
+pub returns-clause-read : goal.returns-clause-read
+returns-clause-read g c =
+    let state = state_of g.M.Store.state in
+    past_read (told_files g.F.Folder.files c.args.session.now.paths) (state c.args.session.now) (state c.read.session) c.read_past.result c.read.invariant.taken c.read.pending.items _ _ _ _ _ c.read.invariant.took (omega arith) c.read.invariant.rest c.read.invariant.told c.read_past.ensures.past

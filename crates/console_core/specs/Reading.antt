@@ -1,0 +1,67 @@
+-- What the reading of a script took, and what was run of it.
+use Rattle.std.specs.Prelude.{◌≡◌, ◌≤◌, ◌+◌, ℕ, List, [], ◌∷◌, take, length, Bool, true, false, Option, IfSome}
+use Rattle.outside_io.specs.Causes.{Rose}
+use Rattle.outside_io.specs.Files.{File}
+use Rattle.outside_io.specs.Streams.{Took}
+use Rattle.console_core.specs.States.{State, CauseOf}
+use Rattle.console_core.specs.Runs.{run_lines, lines_of, IsRun, IsCutShort}
+use Rattle.console_core.specs.declared.script.ReadEnd.{ReadEnd}
+use Rattle.console_core.specs.declared.script.ReadEnd.TheVariants.{AtEnd, Quit, Ended, Failed, TooLong}
+
+-- how many bytes a script has at most
+abbrev pub limit : ℕ
+limit = 1048576
+
+-- the whole lines of what was taken were run; of a script that is too long, those of as many bytes as it may have
+abbrev pub RunsTaken : List File → (first : State) → (taken : List ℕ) → ReadEnd → (after : State) → (start now : Option (List ℕ)) → Type 0
+RunsTaken files first taken AtEnd after start now = IsRun (run_lines files first (lines_of taken).whole) false after start now
+RunsTaken files first taken Quit after start now = IsRun (run_lines files first (lines_of taken).whole) true after start now
+RunsTaken files first taken (Ended fault) after start now = IsCutShort (run_lines files first (lines_of taken).whole).replies fault start now
+RunsTaken files first taken Failed after start now = IsRun (run_lines files first (lines_of taken).whole) false after start now
+RunsTaken files first taken TooLong after start now = IsRun (run_lines files first (lines_of (take limit taken)).whole) false after start now
+
+-- Within the limit all that was taken may be run; a byte past it was taken of a script that is too long. At the end nothing is left.
+abbrev pub EndsAt : ReadEnd → (taken : List ℕ) → (rest : Option (List ℕ)) → Type 0
+EndsAt AtEnd taken rest = (length taken ≤ limit) × IfSome rest (λ left. left ≡ [])
+EndsAt Quit taken rest = length taken ≤ limit
+EndsAt (Ended fault) taken rest = length taken ≤ limit
+EndsAt Failed taken rest = length taken ≤ limit
+EndsAt TooLong taken rest = length taken ≡ limit + 1
+
+-- what is kept of the unfinished line, at the end
+abbrev pub Keeps : ReadEnd → (taken pending : List ℕ) → Type 0
+Keeps AtEnd taken pending = pending ≡ take 8192 (lines_of taken).rest
+Keeps Quit taken pending = Unit {0}
+Keeps (Ended fault) taken pending = Unit {0}
+Keeps Failed taken pending = Unit {0}
+Keeps TooLong taken pending = Unit {0}
+
+-- a read past the limit found the end, failed, or took a byte
+abbrev pub ReadsPast : ReadEnd → (before now : Option (List ℕ)) → Type 0
+ReadsPast AtEnd before now = Took [] before now × IfSome now (λ left. left ≡ [])
+ReadsPast Quit before now = ⊥
+ReadsPast (Ended fault) before now = ⊥
+ReadsPast Failed before now = Took [] before now
+ReadsPast TooLong before now = (byte : ℕ) × Took (byte ∷ []) before now
+
+-- Each fault has its cause, and no count of faults falls.
+abbrev pub ReadCause : Bool → (folder_before folder_now sink_before sink_now script_before script_now : ℕ) → ReadEnd → Type 0
+ReadCause frugal folder_before folder_now sink_before sink_now script_before script_now AtEnd = Unit {0}
+ReadCause frugal folder_before folder_now sink_before sink_now script_before script_now Quit = Unit {0}
+ReadCause frugal folder_before folder_now sink_before sink_now script_before script_now (Ended fault) = CauseOf frugal folder_before folder_now sink_before sink_now fault
+ReadCause frugal folder_before folder_now sink_before sink_now script_before script_now Failed = Rose script_before script_now
+ReadCause frugal folder_before folder_now sink_before sink_now script_before script_now TooLong = Unit {0}
+
+pub record HasReadCauses (frugal : Bool) (folder_before folder_now sink_before sink_now script_before script_now : ℕ) (end : ReadEnd) : Type 0 where
+  pub folder_counts : folder_before ≤ folder_now
+  pub sink_counts : sink_before ≤ sink_now
+  pub script_counts : script_before ≤ script_now
+  pub cause : ReadCause frugal folder_before folder_now sink_before sink_now script_before script_now end
+
+-- Bytes were taken, and what may be run of them was run.
+pub record HasRead (told : Option (List File)) (first after : State) (end : ReadEnd) (pending : List ℕ) (rest_before rest_now start now : Option (List ℕ)) : Type 0 where
+  pub taken : List ℕ
+  pub took : Took taken rest_before rest_now
+  pub ends : EndsAt end taken rest_now
+  pub keeps : Keeps end taken pending
+  pub run : IfSome told (λ files. RunsTaken files first taken end after start now)
