@@ -26,6 +26,15 @@ low_given : Memory → ℕ → List ℕ → Bool → Answered (Result ℕ Shorta
 low_given m size name short =
     if short then record { answer = Err (shortage m (hunk_need size)); after = m } else record { answer = Ok (low_used m + 16); after = with_low m (hunk_block (hunk_need size) name) }
 
+-- An allocation is refused exactly where its need exceeds the room.
+pub answer-low_alloc : (m : Memory) (size : ℕ) (name : List ℕ) → (low_alloc m size name).answer ≡ (if ltb (room m) (hunk_need size) then Err (shortage m (hunk_need size)) else Ok (low_used m + 16))
+unfolding low_alloc low_given
+answer-low_alloc m size name =
+    elim (ltb (room m) (hunk_need size)) as (λ short. (low_given m size name short).answer ≡ (if short then Err (shortage m (hunk_need size)) else Ok (low_used m + 16))) [
+      | true ↦ refl
+      | false ↦ refl
+    ]
+
 -- the low list after an allocation
 pub low-low_alloc : (m : Memory) (size place : ℕ) (name : List ℕ) → (low_alloc m size name).answer ≡ Ok place →
     ((low_alloc m size name).after.low ≡ m.low ++ hunk_block (hunk_need size) name ∷ []) × (place ≡ low_used m + 16)

@@ -1,6 +1,6 @@
 -- The cache between the hunks: what moves, and what leaves.
 use Prim.Native.Nat.{zero, suc}
-use Rattle.std.specs.Prelude.{ℕ, ◌+◌, ◌-◌, ◌*◌, List, [], ◌∷◌, nat_lt, nat_eq, not, Option, Some, None, is_some, filter, find, if◌then◌else◌, take, replicate, length}
+use Rattle.std.specs.Prelude.{ℕ, ◌+◌, ◌-◌, ◌*◌, List, [], ◌∷◌, nat_lt, nat_eq, not, Option, Some, None, is_some, filter, find, if◌then◌else◌, take, drop, replicate, length}
 use Rattle.std.specs.List.{list_any, range_with_len}
 use Rattle.std.specs.Option.{option_map}
 use Rattle.mem_model.specs.Blocks.{CacheBlock}
@@ -85,10 +85,10 @@ pushed_down c size top = down_in (length c.blocks * suc size) top c
 -- the cache without its n least recently used users and their blocks
 abbrev pub kept : Cache → ℕ → Cache
 kept c n =
-    let users = take (length c.recency - n) c.recency in
-    record { blocks = filter (λ b. list_any (nat_eq b.user) users) c.blocks; recency = users }
+    let stay = length c.recency - n in
+    record { blocks = filter (λ b. not (list_any (nat_eq b.user) (drop stay c.recency))) c.blocks; recency = take stay c.recency }
 
--- How many users leave for a block of `size` bytes: the fewest, so that it has a fit.
+-- How many of the least recently used leave for a block of `size` bytes: the fewest with which it has a fit.
 unfoldable pub evictions : Cache → ℕ → ℕ → ℕ → Option ℕ
 evictions c bottom top size =
     least (filter (λ n. is_some (fit (kept c n).blocks bottom top size)) (range_with_len 0 (suc (length c.recency))))
@@ -109,7 +109,7 @@ abbrev pub made_room : Cache → Option ℕ → Cache
 made_room c None = c
 made_room c (Some n) = kept c n
 
--- Those leave that have to, and a new block stands at its fit among the rest.
+-- Those users leave that have to, and a new block stands at its fit among the rest.
 unfoldable pub with_new : Cache → ℕ → ℕ → ℕ → ℕ → List ℕ → Cache
 with_new c bottom top size user name =
     let rest : Cache = made_room c (evictions c bottom top size) in

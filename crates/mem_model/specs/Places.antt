@@ -19,10 +19,14 @@ zone_need n = round_up (n + 28) 8
 abbrev pub cache_need : ℕ → ℕ
 cache_need n = round_up (n + 40) 16
 
+abbrev pub lesser : ℕ → Option ℕ → ℕ
+lesser n None = n
+lesser n (Some k) = min n k
+
 -- the least number of a list
 abbrev pub least : List ℕ → Option ℕ
 least [] = None
-least (n ∷ ns) = elim (least ns) [ None ↦ Some n | Some k ↦ Some (min n k) ]
+least (n ∷ ns) = Some (lesser n (least ns))
 
 abbrev pub end_of : CacheBlock → ℕ
 end_of b = b.place + b.size

@@ -127,5 +127,6 @@ impl Model for CacheCell {
 
     ghost Value = { CacheBlock };
 
-    ghost view = { λ c. record { place = c.place; size = c.size; user = c.user; name = c.name.items; bytes = c.bytes.items } };
+    ghost view = { λ c.
+        record { place = c.place; size = c.size; user = c.user; name = c.name.items; bytes = c.bytes.items } };
 }

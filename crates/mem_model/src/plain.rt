@@ -74,8 +74,8 @@ fn position_at(cells: &[HunkCell], used: u32, place: u32) -> usize
 impl PlainStore {
     /// A store of `size` bytes with a zone of `zone` bytes, all free, and an empty cache for this many users.
     ///
-    /// `TooSmall` comes where the zone's block, with its header of 16 bytes, exceeds the size, and before any memory
-    /// is taken.
+    /// `TooSmall` comes exactly where the zone's block, with its header of 16 bytes, exceeds the size, whatever memory
+    /// there is.
     pub fn create(alloc: Global, size: u32, zone: u32, users: u32) -> Result<PlainStore, StoreStart>
         requires size { (IsMultiple 16 size) × (size ≤ 2 ^ 26) }
         requires zone { (IsMultiple 16 zone) × (64 ≤ zone) × (zone ≤ 2 ^ 26) }

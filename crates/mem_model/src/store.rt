@@ -11,9 +11,7 @@ ghost use Rattle.mem_model.specs.Laid.{Laid, IsText};
 
 use crate::answers::{Place, RoomError};
 
-/// A keeper of one arena. Each block that a call makes is known by the place of its payload.
-///
-/// Sizes, places and marks are in bytes. A call whose contract names no want of memory takes none.
+/// A keeper of one arena. A block is known by the place of its payload. Sizes, places and marks are in bytes.
 pub trait Store: Drop {
     /// The memory that the store stands for.
     ghost state: { Self → Memory };
@@ -27,11 +25,13 @@ pub trait Store: Drop {
     /// Allocates `size` zero bytes at the end of the low hunk, with the first 8 bytes of a name, and answers their
     /// place. The block takes `size` rounded up to a multiple of 16, and a header of 16.
     ///
-    /// `NoRoom` tells that need and the room where it is less. After an error the store is as before.
+    /// `NoRoom` tells that need and the room where it is less; it adds its event where events are kept, and changes
+    /// nothing else. Want of memory changes nothing.
     fn low_alloc(&mut self, size: u64, name: &[u8]) -> Result<Place, RoomError>
         requires size { size ≤ 2 ^ 62 }
         requires name { IsText name.now }
-        ensures gives { Gives (low_alloc (state self.old) size name.now) frugal (state self.old) (room_answer result) (state self.new) }
+        ensures gives { Gives (low_alloc (state self.old) size name.now) frugal (state self.old)
+            (room_answer result) (state self.new) }
         ensures laid { Laid (state self.new) };
 
     /// Where the low hunk ends: the sizes of its blocks, added up.
@@ -47,7 +47,8 @@ pub trait Store: Drop {
     /// The bytes of a low block above the zone, to be written.
     fn low_bytes_mut(&mut self, place: Place) -> &mut [u8]
         requires { IsSome (low_bytes (state self.old) place.0) }
-        ensures* writes_back { sem 𝓛 (Lends Self.row (Array byte 0) self.entry result (low_written self.old place.0)) }
+        ensures* writes_back { sem 𝓛 (Lends Self.row (Array byte 0) self.entry result
+            (low_written self.old place.0)) }
         ensures shows { low_bytes (state self.old) place.0 ≡ Some result.now }
         ensures laid { Laid (state self.old) };
 
