@@ -1,9 +1,11 @@
 //! The program: the console over folders of the host, standard input and standard output.
 #![tactic(auto)]
 
-ghost use Rattle.std.specs.Prelude.{◌≡◌};
+ghost use Rattle.std.specs.Prelude.{◌≡◌, OnOk};
 ghost use Rattle.std.specs.Process.{exit_status};
+ghost use Rattle.std.specs.Io.KnownBytes.{Appends};
 ghost use Rattle.console_core.specs.Ends.{code_of};
+ghost use Rattle.quake_cli.specs.EndLines.{end_line};
 
 mod folder;
 mod streams;
@@ -11,24 +13,32 @@ mod streams;
 use console_core::{Status, exit_code, quake_main, status_line};
 use folder::DirFolder;
 use outside_io::Folder;
-use std::env;
-use std::io::ErrorKind;
+use std::io::{ErrorKind, Write};
 use std::process::ExitCode;
-use streams::{StdinSource, StdoutSink};
+use std::{env, io};
+use streams::{StdinSource, StdoutSink, put_whole};
 
 #[cfg(test)]
 mod tests;
 
-// The exit code of a run that ended so. Where it isn't 0, the run's line is printed to standard error.
+// Prints the line of a run that ended so. It is nothing where the run ended well.
+fn print_line<W: Write>(to: &mut W, status: &Status) -> io::Result<()>
+    ensures { OnOk result (Appends (W.contents to.old) (W.contents to.new) (end_line status.now)) }
+{
+    if exit_code(status) == 0 {
+        return Ok(());
+    }
+    put_whole(to, status_line(status).as_bytes())?;
+    put_whole(to, b"\n")
+}
+
+// The exit code of a run that ended so, with its line on standard error.
 fn report(rt: &HostRuntime, status: &Status) -> ExitCode
     ensures { exit_status result ≡ code_of status.now }
 {
-    let code = exit_code(status);
-    if code != 0 {
-        // Where standard error takes nothing, the code still tells.
-        let _ = rt.eprintln(status_line(status).as_str());
-    }
-    ExitCode::from(code)
+    // Where standard error takes nothing, the code still tells.
+    let _ = print_line(&mut rt.stderr(), status);
+    ExitCode::from(exit_code(status))
 }
 
 fn main(rt: HostRuntime) -> ExitCode {

@@ -1,5 +1,7 @@
 use crate::folder::{DirFolder, fill};
+use crate::print_line;
 use crate::streams::{StdinSource, StdoutSink, put_whole};
+use console_core::Status;
 use outside_io::{Folder, FolderFailed, Sink, Source};
 use std::io::{ErrorKind, Read};
 use std::os::unix::fs::symlink;
@@ -140,4 +142,11 @@ fn short_steps_add_up(rt: HostRuntime) {
     let full = put_whole(&mut to, b"hello").map_err(|error| error.kind());
     assert_eq!(rt; full, Err(ErrorKind::WriteZero));
     assert_eq!(rt; &room, b"hel");
+}
+
+#[test]
+fn a_bad_end_has_a_line(rt: HostRuntime) {
+    let mut room = [0u8; 14];
+    assert!(rt; print_line(&mut room.as_mut_slice(), &Status::OutOfMemory).is_ok());
+    assert_eq!(rt; &room, b"out of memory\n");
 }
