@@ -1,5 +1,6 @@
 -- Laws of the operations, over the definitions alone: what callers of a store need.
-use Rattle.std.proofs.Common.{◌≡◌, ◌≢◌, ℕ, ◌+◌, ◌-◌, ◌≤◌, List, [], ◌∷◌, ◌++◌, Some, Result, Ok, Err, Bool, true, false, ltb, eqb, cond, length, refl, sym, ap, ◌∙◌, arith, replicate, ◌⊎◌, inl, inr, if◌then◌else◌}
+use Rattle.std.proofs.Common.{◌≡◌, ◌≢◌, ℕ, ◌+◌, ◌-◌, ◌≤◌, List, [], ◌∷◌, ◌++◌, Option, Some, None, Result, Ok, Err, Bool, true, false, ltb, eqb, cond, length, refl, sym, ap, ◌∙◌, arith, replicate, ◌⊎◌, inl, inr, if◌then◌else◌}
+use Rattle.std.specs.Option.{option_map}
 use Rattle.std.specs.List.{AllByRecursion}
 use Rattle.std.proofs.lemmas.Bool.Decides.{eqb_tells}
 use Rattle.std.proofs.lemmas.Bool.{ne_eqb, eq-eqb}
@@ -8,11 +9,12 @@ use Rattle.mem_model.specs.Event.{Event, Event.LowAlloc, Shortage}
 use Rattle.mem_model.specs.Blocks.{HunkBlock}
 use Rattle.mem_model.specs.Memory.{Memory, room, low_used, size_of}
 use Rattle.mem_model.specs.Places.{hunk_need, round_up}
-use Rattle.mem_model.specs.Hunk.{hunk_block, with_low, over, bytes_from, with_bytes_from, bytes_above, with_bytes_above, low_bytes, with_low_bytes}
+use Rattle.mem_model.specs.Hunk.{hunk_block, with_low, with_bytes, over, bytes_from, with_bytes_from, bytes_above, with_bytes_above, cut_from, cut_above, low_bytes, with_low_bytes}
 use Rattle.mem_model.specs.Answer.{Answered, noted, with_event}
 use Rattle.mem_model.specs.Laid.{Laid, IsHunkBlock, AreLowBlocks}
-use Rattle.mem_model.specs.Operations.{low_alloc, shortage}
+use Rattle.mem_model.specs.Operations.{low_alloc, low_free, low_cut, shortage}
 use Rattle.mem_model.proofs.Laying.{over_same, Laid-with_low_bytes}
+use Rattle.mem_model.proofs.Cuts.{cut_whole}
 
 -- an event is no other part of the memory
 low-with_event : (m : Memory) (event : Event) → (with_event m event).low ≡ m.low
@@ -176,5 +178,77 @@ pub low_place_apart : (m : Memory) (size place other : ℕ) (name bytes : List �
 low_place_apart m size place other name bytes laid h there same =
     omega (arith, (low-low_alloc m size place name h).1, low_bytes-inside m other bytes laid there)
 
+-- A freeing to where the low hunk once ended takes back all blocks that came since.
+pub low_free-back : (m before : Memory) (since : List HunkBlock) → Laid before → m.low ≡ before.low ++ since →
+    ((low_free m (low_used before)).answer ≡ Ok tt) × ((low_free m (low_used before)).after.low ≡ before.low)
+unfolding low_free
+low_free-back m before since laid e =
+    rw (ap (λ low. cut_above low (low_used before)) e ∙ cut_whole before.low since (low_used before) laid.low refl) (refl, low-with_event _ _)
+
+new_written_from : (start : ℕ) (blocks : List HunkBlock) (b : HunkBlock) (place : ℕ) (bytes : List ℕ) → AllByRecursion IsHunkBlock blocks → place ≡ (start + size_of blocks) + 16 → with_bytes_from start (blocks ++ b ∷ []) place bytes ≡ blocks ++ with_bytes b bytes ∷ []
+new_written_from start [] b place bytes p e = rw (eq-eqb (start + 16) place (omega arith))
+new_written_from start (c ∷ cs) b place bytes p e =
+    rw (ne_eqb (start + 16) place (λ same. absurd (omega (arith, p.0.header)))) (ap (λ xs. c ∷ xs) (new_written_from (start + c.size) cs b place bytes p.1 (omega arith)))
+
+new_written_above : (low : List HunkBlock) (b : HunkBlock) (place : ℕ) (bytes : List ℕ) → AreLowBlocks low → place ≡ size_of low + 16 → with_bytes_above (low ++ b ∷ []) place bytes ≡ low ++ with_bytes b bytes ∷ []
+new_written_above [] b place bytes p e = absurd p
+new_written_above (zone ∷ blocks) b place bytes p e = ap (λ xs. zone ∷ xs) (new_written_from zone.size blocks b place bytes p.1 e)
+
+-- the low list after an allocation and a write into the new block
+low-new_written : (m : Memory) (size place : ℕ) (name bytes : List ℕ) → Laid m → (low_alloc m size name).answer ≡ Ok place →
+    (with_low_bytes (low_alloc m size name).after place bytes).low ≡ m.low ++ with_bytes (hunk_block (hunk_need size) name) bytes ∷ []
+unfolding with_low_bytes
+low-new_written m size place name bytes laid h =
+    let given = low-low_alloc m size place name h in
+    ap (λ low. with_bytes_above low place bytes) given.0 ∙ new_written_above m.low (hunk_block (hunk_need size) name) place bytes laid.low given.1
+
+-- A freeing to the old mark takes back an allocation, whatever was written in the new block.
+pub low_free-low_alloc : (m : Memory) (size place : ℕ) (name bytes : List ℕ) → Laid m → (low_alloc m size name).answer ≡ Ok place →
+    (low_free (with_low_bytes (low_alloc m size name).after place bytes) (low_used m)).answer ≡ Ok tt
+low_free-low_alloc m size place name bytes laid h = (low_free-back _ m _ laid (low-new_written m size place name bytes laid h)).0
+
+-- The low list is then the old one.
+pub low-low_free : (m : Memory) (size place : ℕ) (name bytes : List ℕ) → Laid m → (low_alloc m size name).answer ≡ Ok place →
+    (low_free (with_low_bytes (low_alloc m size name).after place bytes) (low_used m)).after.low ≡ m.low
+low-low_free m size place name bytes laid h = (low_free-back _ m _ laid (low-new_written m size place name bytes laid h)).1
+
+mapped_some : {X Y : Type 0} (f : X → Y) (o : Option X) (y : Y) → option_map f o ≡ Some y → (x : X) × (o ≡ Some x) × (y ≡ f x)
+mapped_some f None y h = absurd (cc)
+mapped_some f (Some x) y h = (x, refl, cc)
+
+place_above : (start : ℕ) (blocks : List HunkBlock) (place : ℕ) (bytes : List ℕ) → bytes_from start blocks place ≡ Some bytes → start + 16 ≤ place
+place_above start [] place bytes h = absurd (cc)
+place_above start (b ∷ bs) place bytes h =
+    elim (eqb_tells (start + 16) place) [
+      | inl at ↦ omega (arith, at.1)
+      | inr off ↦ let there : bytes_from (start + b.size) bs place ≡ Some bytes = rw off.0 at h in omega (arith, place_above (start + b.size) bs place bytes there)
+    ]
+
+kept_from : (start : ℕ) (blocks kept : List HunkBlock) (mark place : ℕ) (bytes : List ℕ) → bytes_from start blocks place ≡ Some bytes → place ≤ mark → cut_from start blocks mark ≡ Some kept → bytes_from start kept place ≡ Some bytes
+kept_from start [] kept mark place bytes h below cut = absurd (cc)
+kept_from start (b ∷ bs) kept mark place bytes h below cut =
+    let rest : option_map (λ xs. b ∷ xs) (cut_from (start + b.size) bs mark) ≡ Some kept = rw (ne_eqb start mark (λ e. absurd (omega (arith, place_above start (b ∷ bs) place bytes h, e)))) at cut in
+    let some = mapped_some (λ xs. b ∷ xs) (cut_from (start + b.size) bs mark) kept rest in
+    rw some.2 (elim (eqb_tells (start + 16) place) [
+      | inl at ↦ rw at.0 (rw at.0 at h)
+      | inr off ↦ rw off.0 (kept_from (start + b.size) bs some.0 mark place bytes (rw off.0 at h) below some.1)
+    ])
+
+kept_above : (low kept : List HunkBlock) (mark place : ℕ) (bytes : List ℕ) → bytes_above low place ≡ Some bytes → place ≤ mark → cut_above low mark ≡ Some kept → bytes_above kept place ≡ Some bytes
+kept_above [] kept mark place bytes h below cut = absurd (cc)
+kept_above (zone ∷ blocks) kept mark place bytes h below cut =
+    let some = mapped_some (λ xs. zone ∷ xs) (cut_from zone.size blocks mark) kept cut in
+    rw some.2 (kept_from zone.size blocks some.0 mark place bytes h below some.1)
+
+kept_bytes : (m : Memory) (mark place : ℕ) (bytes : List ℕ) (kept : Option (List HunkBlock)) → bytes_above m.low place ≡ Some bytes → place ≤ mark → cut_above m.low mark ≡ kept → bytes_above (low_cut m mark kept).after.low place ≡ Some bytes
+kept_bytes m mark place bytes None h below cut = h
+kept_bytes m mark place bytes (Some kept) h below cut = kept_above m.low kept mark place bytes h below cut
+
+-- A freeing leaves the bytes of each block below the mark.
+pub low_bytes-low_free : (m : Memory) (mark place : ℕ) (bytes : List ℕ) → low_bytes m place ≡ Some bytes → place ≤ mark → low_bytes (low_free m mark).after place ≡ Some bytes
+unfolding low_bytes low_free
+low_bytes-low_free m mark place bytes h below =
+    ap (λ low. bytes_above low place) (low-with_event (low_cut m mark (cut_above m.low mark)).after _) ∙ kept_bytes m mark place bytes (cut_above m.low mark) h below refl
+
 -- for callers: `#[tactic(auto, using(mem_model::proofs::Laws::store_laws))]`
-pub ruleset store_laws = (low_place_apart, low_bytes-low_alloc, low_bytes-new, length-new, low_bytes-written, low_bytes-elsewhere, Laid-with_low_bytes)
+pub ruleset store_laws = (low_place_apart, low_bytes-low_alloc, low_bytes-new, length-new, low_bytes-written, low_bytes-elsewhere, low_free-low_alloc, low-low_free, low_bytes-low_free, Laid-with_low_bytes)

@@ -1,9 +1,8 @@
 //! What no clause says: that calls succeed, and numbers from outside.
 
-ghost use Rattle.std.specs.Prelude.{◌≤◌, ◌^◌, length};
-ghost use Rattle.mem_model.specs.Laid.{Laid};
+ghost use Rattle.std.specs.Prelude.{◌≡◌, ◌≤◌, ◌^◌, length, true, IfOk};
 
-use crate::{Place, PlainStore, RoomError, Store, StoreStart};
+use crate::{BadMark, Place, PlainStore, RoomError, Store, StoreStart};
 use std::test::Fail;
 
 #[test]
@@ -33,15 +32,48 @@ fn low_blocks_fill_the_room(rt: HostRuntime) -> Result<(), Fail> {
     Ok(())
 }
 
+#[test]
+fn the_low_hunk_is_freed_to_marks(rt: HostRuntime) -> Result<(), Fail> {
+    let mut store = PlainStore::create(rt.alloc(), 65_536, 49_152, 8)?;
+    store.low_alloc(100, b"first")?;
+    store.low_alloc(32, b"second")?;
+    for (mark, answer, end) in [
+        (0, Err(BadMark { mark: 0 }), 49_344),
+        (49_152, Err(BadMark { mark: 49_152 }), 49_344),
+        (49_336, Err(BadMark { mark: 49_336 }), 49_344),
+        (49_360, Err(BadMark { mark: 49_360 }), 49_344),
+        (49_344, Ok(()), 49_344),
+        (49_296, Ok(()), 49_296),
+        (49_344, Err(BadMark { mark: 49_344 }), 49_296),
+        (49_168, Ok(()), 49_168),
+        (49_168, Ok(()), 49_168),
+    ] {
+        assert_eq!(rt; store.low_free(mark), answer, "at {mark}");
+        assert_eq!(rt; store.low_mark(), end, "at {mark}");
+    }
+    Ok(())
+}
+
 // Puts a text into a new block of any store, and reads it back.
 #[tactic(auto, using(crate::proofs::Laws::store_laws))]
 fn reads_back<S: Store>(store: &mut S, text: &[u8]) -> Result<bool, RoomError>
-    requires laid { Laid (S.state store.old) }
     requires small { length text.now ≤ 2 ^ 20 }
 {
     let place = store.low_alloc(text.len() as u64, b"a long name")?;
     put(store.low_bytes_mut(place), text);
     Ok(store.low_bytes(place).starts_with(text))
+}
+
+// Puts a text into a new block of any store, and gives the block back.
+#[tactic(auto, using(crate::proofs::Laws::store_laws))]
+fn gives_back<S: Store>(store: &mut S, text: &[u8]) -> Result<bool, RoomError>
+    requires small { length text.now ≤ 2 ^ 20 }
+    ensures { IfOk result (λ done. (done ≡ true) × ((S.state store.new).low ≡ (S.state store.old).low)) }
+{
+    let mark = store.low_mark();
+    let place = store.low_alloc(text.len() as u64, b"brief")?;
+    put(store.low_bytes_mut(place), text);
+    Ok(store.low_free(mark).is_ok())
 }
 
 // Writes a text over the front of the bytes.
@@ -56,6 +88,7 @@ fn put(bytes: &mut [u8], text: &[u8])
 fn blocks_keep_what_is_written(rt: HostRuntime) -> Result<(), Fail> {
     let mut store = PlainStore::create(rt.alloc(), 65_536, 49_152, 8)?;
     assert!(rt; reads_back(&mut store, b"hello")?);
+    assert!(rt; gives_back(&mut store, b"a longer text, of more than one line")?);
     assert_eq!(rt; (store.low_mark(), store.room()), (49_200, 16_336));
     let next = store.low_alloc(20, b"next")?;
     assert_eq!(rt; next, Place(49_216));
