@@ -1,0 +1,178 @@
+// The words of a command text.
+ghost use Rattle.std.specs.Prelude.{◌≡◌, ◌≤◌, ◌==◌, not, length, drop, slice_index_or, [], option_map, position};
+ghost use Rattle.std.specs.List.{position_or_len};
+ghost use Rattle.cmd_buffer.specs.Words.{is_blank, is_single, ends_word, first_word, word_at_front, words_of, found_of};
+
+use std::marker::Model;
+
+// How many words are kept.
+const MOST: usize = 80;
+
+/// The words of a command text, as `tokenize` finds them. Contracts see them as the list of their bytes.
+#[derive(Debug, Drop)]
+pub struct Words<'a> {
+    text: &'a [u8],
+}
+
+impl<'a> Model for Words<'a> {
+    ghost use Rattle.std.specs.Prelude.{List, ℕ};
+    ghost use Rattle.cmd_buffer.specs.Words.{words_of};
+
+    ghost Value = { List (List ℕ) };
+
+    ghost view = { λ a. words_of a.text.now };
+}
+
+// A word, and what follows it.
+#[derive(Clone, Copy)]
+struct Found<'a> {
+    word: &'a [u8],
+    rest: &'a [u8],
+}
+
+/// The words of the text, of which the first 80 are kept.
+///
+/// Bytes up to 32 separate words. Each of `{ } ( ) ' :` is a word by itself, and ends a word before it.
+/// Where a word would begin, `"` opens one that runs to the next `"` or the end, and may be empty, and
+/// `//` ends the text. Any other byte belongs to a word, those from 128 on and a `"` within it included.
+pub fn tokenize(text: &[u8]) -> Words<'_>
+    ensures { result ≡ words_of text.now }
+{
+    Words { text }
+}
+
+impl<'a> Words<'a> {
+    /// How many words there are, at most 80.
+    pub fn count(&self) -> usize
+        ensures value { result ≡ length self.now }
+        ensures kept { result ≤ 80 }
+    {
+        let mut rest = self.text;
+        for count in 0..MOST {
+            match next_word(rest) {
+                Some(found) => rest = found.rest,
+                None => return count,
+            }
+        }
+        MOST
+    }
+
+    /// The word of this number, counted from 0, or no bytes past the last word.
+    pub fn word(&self, number: usize) -> &[u8]
+        ensures { result.now ≡ slice_index_or self.now number [] }
+    {
+        let mut rest = self.text;
+        if MOST <= number {
+            return &[];
+        }
+        for _before in 0..number {
+            match next_word(rest) {
+                Some(found) => rest = found.rest,
+                None => return &[],
+            }
+        }
+        match next_word(rest) {
+            Some(found) => found.word,
+            None => &[],
+        }
+    }
+}
+
+// The first word of a text, and what follows it.
+fn next_word(text: &[u8]) -> Option<Found<'_>>
+    ensures { option_map found_of result ≡ first_word text.now }
+{
+    front_word(skip_blanks(text))
+}
+
+// The word that begins at the front of a text.
+fn front_word(text: &[u8]) -> Option<Found<'_>>
+    ensures { option_map found_of result ≡ word_at_front text.now }
+{
+    if text.starts_with(b"//") {
+        return None;
+    }
+    match text {
+        [] => None,
+        [b'"', rest @ ..] => {
+            let end = end_of_quoted(rest);
+            let after = (end + 1).min(rest.len());
+            Some(Found {
+                word: &rest[..end],
+                rest: &rest[after..],
+            })
+        }
+        [byte, rest @ ..] if is_single_byte(*byte) => Some(Found {
+            word: &text[..1],
+            rest,
+        }),
+        _ => {
+            let end = end_of_word(text);
+            Some(Found {
+                word: &text[..end],
+                rest: &text[end..],
+            })
+        }
+    }
+}
+
+// The text from its first byte on that is no blank.
+#[tactic(auto, using(crate::proofs::Counting::unwrap_position))]
+fn skip_blanks(text: &[u8]) -> &[u8]
+    ensures { result.now ≡ drop (position_or_len (λ byte. not (is_blank byte)) text.now) text.now }
+{
+    match first_letter(text) {
+        Some(start) => &text[start..],
+        None => &text[text.len()..],
+    }
+}
+
+// Where a word that isn't quoted ends.
+#[tactic(auto, using(crate::proofs::Counting::unwrap_position))]
+fn end_of_word(text: &[u8]) -> usize
+    ensures value { result ≡ position_or_len ends_word text.now }
+    ensures inside { result ≤ length text.now }
+{
+    first_end(text).unwrap_or(text.len())
+}
+
+// Where a quoted word ends.
+#[tactic(auto, using(crate::proofs::Counting::unwrap_position))]
+fn end_of_quoted(text: &[u8]) -> usize
+    ensures value { result ≡ position_or_len (λ byte. byte == 34) text.now }
+    ensures inside { result ≤ length text.now }
+{
+    first_quote(text).unwrap_or(text.len())
+}
+
+fn first_letter(text: &[u8]) -> Option<usize>
+    ensures { result ≡ position (λ byte. not (is_blank byte)) text.now }
+{
+    text.iter().position(|byte| !is_blank_byte(*byte))
+}
+
+fn first_end(text: &[u8]) -> Option<usize>
+    ensures { result ≡ position ends_word text.now }
+{
+    text.iter()
+        .position(|byte| is_blank_byte(*byte) || is_single_byte(*byte))
+}
+
+fn first_quote(text: &[u8]) -> Option<usize>
+    ensures { result ≡ position (λ byte. byte == 34) text.now }
+{
+    text.iter().position(|byte| *byte == b'"')
+}
+
+fn is_blank_byte(byte: u8) -> bool
+    ensures { result ≡ is_blank byte }
+{
+    byte <= b' '
+}
+
+// Whether the byte is a word by itself.
+fn is_single_byte(byte: u8) -> bool
+    ensures { result ≡ is_single byte }
+{
+    matches!(byte, b'{' | b'}' | b'(' | b')' | b'\'' | b':')
+}

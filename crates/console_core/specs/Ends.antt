@@ -1,0 +1,145 @@
+-- How a run ends.
+use Rattle.std.specs.Prelude.{◌≡◌, ◌≤◌, ◌+◌, ◌*◌, ◌⊎◌, ℕ, List, [], ◌∷◌, ◌++◌, length, slice_get, slice_index, ⊤, true, false, Option, Some, None, Result, Ok, Err, IfSome, option_and_then, codes}
+use Rattle.outside_io.specs.Causes.{Rose}
+use Rattle.outside_io.specs.Files.{File}
+use Rattle.outside_io.specs.Streams.{Adds, Took}
+use Rattle.mem_model.specs.Memory.{new_memory}
+use Rattle.console_core.specs.States.{State}
+use Rattle.console_core.specs.Runs.{texts, IsCutShort, run_lines, lines_of, run}
+use Rattle.console_core.specs.Reading.{limit}
+use Rattle.console_core.specs.declared.words.Request.{Request}
+use Rattle.console_core.specs.declared.ends.Fault.{Fault}
+use Rattle.console_core.specs.declared.ends.Fault.TheVariants as fault
+use Rattle.console_core.specs.declared.status.Status.{Status}
+use Rattle.console_core.specs.declared.status.Status.TheVariants.{Done, Usage, OutOfMemory, ScriptFault, FolderFault, WriteFault, ScriptTooLong}
+
+abbrev pub code_of : {F : Type 0} → Status F → ℕ
+code_of Done = 0
+code_of (Usage word) = 1
+code_of OutOfMemory = 2
+code_of ScriptFault = 5
+code_of (FolderFault word folder) = 6
+code_of WriteFault = 7
+code_of ScriptTooLong = 8
+
+abbrev pub status_text : {F : Type 0} → Status F → List ℕ
+status_text Done = []
+status_text (Usage word) = codes "usage: quake_cli [-heapsize KB] [-zone KB] [-speed HZ] folder ..."
+status_text OutOfMemory = codes "out of memory"
+status_text ScriptFault = codes "script read fault"
+status_text (FolderFault word folder) = codes "folder read fault"
+status_text WriteFault = codes "write fault"
+status_text ScriptTooLong = codes "script too long"
+
+-- the word of a faulty command line
+abbrev pub usage_of : {F : Type 0} → Status F → Option ℕ
+usage_of Done = None
+usage_of (Usage word) = Some word
+usage_of OutOfMemory = None
+usage_of ScriptFault = None
+usage_of (FolderFault word folder) = None
+usage_of WriteFault = None
+usage_of ScriptTooLong = None
+
+abbrev pub fault_of : Result Request ℕ → Option ℕ
+fault_of (Ok request) = None
+fault_of (Err word) = Some word
+
+-- the files that the folder of this number tells
+abbrev pub told_at : ℕ → List (Option (List File)) → Option (List File)
+told_at number files = option_and_then (λ told. told) (slice_get files number)
+
+-- the state at the start: a heap of so many kilobytes with a zone of 48, for 768 cache users, and an empty buffer
+abbrev pub first_state : ℕ → State
+first_state kilobytes = record { memory = new_memory (1024 * kilobytes) 49152 768 0; buffer = [] }
+
+-- The replies of the run over the whole script were put, up to `quit` where that was executed. The script was taken to its
+-- end, or what was taken holds the line in whose frame `quit` was executed.
+pub record IsWhole (told : Option (List File)) (first : State) (rest_before rest_now start now : Option (List ℕ)) : Type 0 where
+  pub taken : List ℕ
+  pub took : Took taken rest_before rest_now
+  pub size : length taken ≤ limit
+  pub put : IfSome told (λ files. IfSome rest_before (λ script. Adds (texts (run files first script).replies) start now))
+  pub all : IfSome rest_now (λ left. left ≡ []) ⊎ IfSome told (λ files. (run_lines files first (lines_of taken).whole).quit ≡ true)
+
+-- a fault ended the run over the whole script in one of its replies
+pub record IsCutAt (fault : Fault) (told : Option (List File)) (first : State) (rest_before rest_now start now : Option (List ℕ)) : Type 0 where
+  pub taken : List ℕ
+  pub took : Took taken rest_before rest_now
+  pub size : length taken ≤ limit
+  pub put : IfSome told (λ files. IfSome rest_before (λ script. IsCutShort (run files first script).replies fault start now))
+
+-- the replies over the whole lines of these bytes were put, and `quit` was executed in no frame of them
+pub record LinesWerePut (files : List File) (first : State) (bytes : List ℕ) (start now : Option (List ℕ)) : Type 0 where
+  pub quit : (run_lines files first (lines_of bytes).whole).quit ≡ false
+  pub put : Adds (texts (run_lines files first (lines_of bytes).whole).replies) start now
+
+-- a read failed behind these bytes, whose whole lines were run
+pub record IsFailed (told : Option (List File)) (first : State) (rest_before rest_now start now : Option (List ℕ)) : Type 0 where
+  pub taken : List ℕ
+  pub took : Took taken rest_before rest_now
+  pub size : length taken ≤ limit
+  pub put : IfSome told (λ files. LinesWerePut files first taken start now)
+
+-- a byte past the limit was taken, and the whole lines before it were run
+pub record IsPastLimit (told : Option (List File)) (first : State) (rest_before rest_now start now : Option (List ℕ)) : Type 0 where
+  pub front : List ℕ
+  pub byte : ℕ
+  pub size : length front ≡ limit
+  pub took : Took (front ++ byte ∷ []) rest_before rest_now
+  pub put : IfSome told (λ files. LinesWerePut files first front start now)
+
+-- nothing was taken and nothing was put
+pub record IsUntouched (rest_before rest_now start now : Option (List ℕ)) : Type 0 where
+  pub rest : rest_now ≡ rest_before
+  pub put : now ≡ start
+
+-- What was taken of the script and what was put, for each status.
+abbrev pub Ends : {F : Type 0} → Option (List File) → (first : State) → (rest_before rest_now start now : Option (List ℕ)) → Status F → Type 0
+Ends told first rest_before rest_now start now Done = IsWhole told first rest_before rest_now start now
+Ends told first rest_before rest_now start now (Usage word) = IsUntouched rest_before rest_now start now
+Ends told first rest_before rest_now start now OutOfMemory = IsUntouched rest_before rest_now start now ⊎ IsCutAt fault.Memory told first rest_before rest_now start now
+Ends told first rest_before rest_now start now ScriptFault = IsFailed told first rest_before rest_now start now
+Ends told first rest_before rest_now start now (FolderFault word folder) = IsCutAt fault.Folder told first rest_before rest_now start now
+Ends told first rest_before rest_now start now WriteFault = IsCutAt fault.Write told first rest_before rest_now start now
+Ends told first rest_before rest_now start now ScriptTooLong = IsPastLimit told first rest_before rest_now start now
+
+-- the request of lawful words
+abbrev pub request_of : Result Request ℕ → Option Request
+request_of (Ok request) = Some request
+request_of (Err word) = None
+
+-- What was taken and put by words that may be faulty, over folders: the one that is asked for counts.
+abbrev pub EndsFor : {F : Type 0} → Option Request → List (Option (List File)) → (rest_before rest_now start now : Option (List ℕ)) → Status F → Type 0
+EndsFor None files rest_before rest_now start now status = IsUntouched rest_before rest_now start now
+EndsFor (Some request) files rest_before rest_now start now status = Ends (told_at request.folder files) (first_state request.kilobytes) rest_before rest_now start now status
+
+-- Each fault came from the object that it names: that one's count rose over the run. A faulty command line calls none.
+abbrev pub HasOwnCause : {F : Type 0} → (F → ℕ) → List ℕ → (script_before script_now sink_before sink_now : ℕ) → Status F → Type 0
+HasOwnCause faults folders_before script_before script_now sink_before sink_now Done = ⊤
+HasOwnCause faults folders_before script_before script_now sink_before sink_now (Usage word) = (script_now ≡ script_before) × (sink_now ≡ sink_before)
+HasOwnCause faults folders_before script_before script_now sink_before sink_now OutOfMemory = ⊤
+HasOwnCause faults folders_before script_before script_now sink_before sink_now ScriptFault = Rose script_before script_now
+HasOwnCause faults folders_before script_before script_now sink_before sink_now (FolderFault word folder) = Rose (slice_index folders_before word) (faults folder)
+HasOwnCause faults folders_before script_before script_now sink_before sink_now WriteFault = Rose sink_before sink_now
+HasOwnCause faults folders_before script_before script_now sink_before sink_now ScriptTooLong = ⊤
+
+-- the folder that is handed back is that of the word that was asked for, and tells the files that it told before
+abbrev pub HandsBack : {F : Type 0} → (F → Option (List File)) → Option Request → List (Option (List File)) → Status F → Type 0
+HandsBack files request files_before Done = ⊤
+HandsBack files request files_before (Usage word) = ⊤
+HandsBack files request files_before OutOfMemory = ⊤
+HandsBack files request files_before ScriptFault = ⊤
+HandsBack files request files_before (FolderFault word folder) = (files folder ≡ told_at word files_before) × IfSome request (λ asked. word ≡ asked.folder)
+HandsBack files request files_before WriteFault = ⊤
+HandsBack files request files_before ScriptTooLong = ⊤
+
+-- an answer to lawful words and a short script where no count of the script or the sink rises
+abbrev pub IsComplete : {F : Type 0} → Status F → Type 0
+IsComplete Done = ⊤
+IsComplete OutOfMemory = ⊤
+IsComplete (FolderFault word folder) = ⊤
+IsComplete (Usage word) = ⊥
+IsComplete ScriptFault = ⊥
+IsComplete WriteFault = ⊥
+IsComplete ScriptTooLong = ⊥

@@ -1,0 +1,72 @@
+// How a run ends.
+ghost use Rattle.std.specs.Prelude.{◌≡◌, ◌≤◌, length};
+ghost use Rattle.console_core.specs.Ends.{code_of, status_text};
+
+use arrayvec::ArrayString;
+use outside_io::Folder;
+
+/// What ended a line in the middle.
+#[derive(Clone, Copy, Debug, PartialEq, Eq)]
+pub enum Fault {
+    Folder,
+    Write,
+    Memory,
+}
+
+/// How a run ended. `quake_main` says what was put and taken then.
+#[derive(Drop)]
+pub enum Status<F: Folder = Box<dyn Folder>> {
+    /// The script was read to its end, and each of its lines was answered.
+    Done,
+    /// The number of the first word that breaks the rule, or of words where one is missing.
+    Usage { word: u32 },
+    /// The host had no memory for a block.
+    OutOfMemory,
+    /// A read of the script failed, before any line was run.
+    ScriptFault,
+    /// A call of the folder of this word failed. The folder is handed back with its counts.
+    FolderFault { word: u32, folder: F },
+    /// A put of a reply failed.
+    WriteFault,
+    /// The script has more than 4096 bytes. No line was run.
+    ScriptTooLong,
+}
+
+/// The exit code of a run that ended so.
+pub fn exit_code(status: &Status) -> u8
+    ensures { result ≡ code_of status.now }
+{
+    match status {
+        Status::Done => 0,
+        Status::Usage { .. } => 1,
+        Status::OutOfMemory => 2,
+        Status::ScriptFault => 5,
+        Status::FolderFault { .. } => 6,
+        Status::WriteFault => 7,
+        Status::ScriptTooLong => 8,
+    }
+}
+
+fn text<F: Folder>(status: &Status<F>) -> &'static str
+    ensures text { result.now ≡ status_text status.now }
+    ensures short { length result.now ≤ 96 }
+{
+    match status {
+        Status::Done => "",
+        Status::Usage { .. } => {
+            "usage: quake_cli [-heapsize KB] [-zone KB] [-speed HZ] folder ..."
+        }
+        Status::OutOfMemory => "out of memory",
+        Status::ScriptFault => "script read fault",
+        Status::FolderFault { .. } => "folder read fault",
+        Status::WriteFault => "write fault",
+        Status::ScriptTooLong => "script too long",
+    }
+}
+
+/// The line that tells a user how a run ended, without a newline. It is empty for `Done`.
+pub fn status_line(status: &Status) -> ArrayString<96>
+    ensures { result.bytes ≡ status_text status.now }
+{
+    ArrayString::from(text(status)).unwrap()
+}
