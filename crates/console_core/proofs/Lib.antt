@@ -5,3 +5,5 @@ pub mod Lining
 pub mod Loading
 pub mod Shortening
 pub mod Scripts
+pub mod Whole
+pub mod Faulting

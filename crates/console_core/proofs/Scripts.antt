@@ -10,7 +10,6 @@ use Rattle.outside_io.proofs.Puts.{adds_none, adds_both}
 use Rattle.console_core.specs.States.{State, Reply}
 use Rattle.console_core.specs.Runs.{Ran, stopped, line, texts, IsRun, IsCutShort, Runs, joined_runs, go_on, followed, run_lines, byte_run, still_pending, HasNoNewline, Lines, begun, one_byte, lines_of}
 use Rattle.console_core.specs.declared.ends.Fault.{Fault}
-use Rattle.console_core.specs.declared.ends.Fault.TheVariants as fault
 use Rattle.console_core.proofs.Framing.{texts-append}
 use Rattle.console_core.proofs.Shortening.{take_front, line_short, line_front}
 

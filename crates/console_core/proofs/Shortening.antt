@@ -1,7 +1,7 @@
 -- A line is the same as its first 8192 bytes, which are more than the buffer holds.
 use Prim.Native.Nat.{zero, suc}
-use Rattle.std.proofs.Common.{◌≡◌, ℕ, ◌+◌, ◌<◌, ◌≤◌, List, [], ◌∷◌, ◌++◌, length, take, drop, Bool, true, false, ◌==◌, inl, inr, refl, sym, ◌∙◌, ap, arith, if◌then◌else◌, length-append, one-add}
-use Rattle.std.specs.Prelude.{nat_le, ◌⊎◌}
+use Rattle.std.proofs.Common.{◌≡◌, ℕ, ◌+◌, ◌≤◌, List, [], ◌∷◌, ◌++◌, length, take, Bool, true, false, ◌==◌, inl, inr, refl, sym, ◌∙◌, ap, arith, if◌then◌else◌, length-append, one-add}
+use Rattle.std.specs.Prelude.{◌⊎◌}
 use Rattle.std.proofs.lemmas.Bool.{lt-leb}
 use Rattle.std.proofs.lemmas.Bool.Decides.{eqb_tells}
 use Rattle.outside_io.specs.Files.{File}

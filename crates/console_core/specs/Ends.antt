@@ -1,5 +1,5 @@
 -- How a run ends.
-use Rattle.std.specs.Prelude.{◌≡◌, ◌≤◌, ◌+◌, ◌*◌, ◌⊎◌, ℕ, List, [], ◌∷◌, ◌++◌, length, slice_get, slice_index, ⊤, true, false, Option, Some, None, Result, Ok, Err, IfSome, option_and_then, codes}
+use Rattle.std.specs.Prelude.{◌≡◌, ◌≤◌, ◌+◌, ◌*◌, ◌⊎◌, ℕ, List, [], length, take, slice_get, slice_index, ⊤, true, false, Option, Some, None, Result, Ok, Err, IfSome, option_and_then, codes}
 use Rattle.outside_io.specs.Causes.{Rose}
 use Rattle.outside_io.specs.Files.{File}
 use Rattle.outside_io.specs.Streams.{Adds, Took}
@@ -81,13 +81,12 @@ pub record IsFailed (told : Option (List File)) (first : State) (rest_before res
   pub size : length taken ≤ limit
   pub put : IfSome told (λ files. LinesWerePut files first taken start now)
 
--- a byte past the limit was taken, and the whole lines before it were run
+-- a byte past the limit was taken, and the whole lines of the bytes before it were run
 pub record IsPastLimit (told : Option (List File)) (first : State) (rest_before rest_now start now : Option (List ℕ)) : Type 0 where
-  pub front : List ℕ
-  pub byte : ℕ
-  pub size : length front ≡ limit
-  pub took : Took (front ++ byte ∷ []) rest_before rest_now
-  pub put : IfSome told (λ files. LinesWerePut files first front start now)
+  pub taken : List ℕ
+  pub took : Took taken rest_before rest_now
+  pub size : length taken ≡ limit + 1
+  pub put : IfSome told (λ files. LinesWerePut files first (take limit taken) start now)
 
 -- nothing was taken and nothing was put
 pub record IsUntouched (rest_before rest_now start now : Option (List ℕ)) : Type 0 where
@@ -104,35 +103,51 @@ Ends told first rest_before rest_now start now (FolderFault word folder) = IsCut
 Ends told first rest_before rest_now start now WriteFault = IsCutAt fault.Write told first rest_before rest_now start now
 Ends told first rest_before rest_now start now ScriptTooLong = IsPastLimit told first rest_before rest_now start now
 
--- the request of lawful words
-abbrev pub request_of : Result Request ℕ → Option Request
-request_of (Ok request) = Some request
-request_of (Err word) = None
+-- the files that the folder that is asked for tells
+abbrev pub told_for : Result Request ℕ → List (Option (List File)) → Option (List File)
+told_for (Ok request) files = told_at request.folder files
+told_for (Err word) files = None
 
--- What was taken and put by words that may be faulty, over folders: the one that is asked for counts.
-abbrev pub EndsFor : {F : Type 0} → Option Request → List (Option (List File)) → (rest_before rest_now start now : Option (List ℕ)) → Status F → Type 0
-EndsFor None files rest_before rest_now start now status = IsUntouched rest_before rest_now start now
-EndsFor (Some request) files rest_before rest_now start now status = Ends (told_at request.folder files) (first_state request.kilobytes) rest_before rest_now start now status
+-- its count of faults
+abbrev pub count_for : Result Request ℕ → List ℕ → ℕ
+count_for (Ok request) counts = slice_index counts request.folder
+count_for (Err word) counts = 0
+
+-- the number of its word
+abbrev pub word_for : Result Request ℕ → Option ℕ
+word_for (Ok request) = Some request.folder
+word_for (Err word) = None
+
+-- What was taken and put by words, which may be faulty.
+abbrev pub EndsFor : {F : Type 0} → Result Request ℕ → List (Option (List File)) → (rest_before rest_now start now : Option (List ℕ)) → Status F → Type 0
+EndsFor (Ok request) files rest_before rest_now start now status = Ends (told_at request.folder files) (first_state request.kilobytes) rest_before rest_now start now status
+EndsFor (Err word) files rest_before rest_now start now status = IsUntouched rest_before rest_now start now
 
 -- Each fault came from the object that it names: that one's count rose over the run. A faulty command line calls none.
-abbrev pub HasOwnCause : {F : Type 0} → (F → ℕ) → List ℕ → (script_before script_now sink_before sink_now : ℕ) → Status F → Type 0
-HasOwnCause faults folders_before script_before script_now sink_before sink_now Done = ⊤
-HasOwnCause faults folders_before script_before script_now sink_before sink_now (Usage word) = (script_now ≡ script_before) × (sink_now ≡ sink_before)
-HasOwnCause faults folders_before script_before script_now sink_before sink_now OutOfMemory = ⊤
-HasOwnCause faults folders_before script_before script_now sink_before sink_now ScriptFault = Rose script_before script_now
-HasOwnCause faults folders_before script_before script_now sink_before sink_now (FolderFault word folder) = Rose (slice_index folders_before word) (faults folder)
-HasOwnCause faults folders_before script_before script_now sink_before sink_now WriteFault = Rose sink_before sink_now
-HasOwnCause faults folders_before script_before script_now sink_before sink_now ScriptTooLong = ⊤
+abbrev pub HasOwnCause : {F : Type 0} → (F → ℕ) → (folder_before script_before script_now sink_before sink_now : ℕ) → Status F → Type 0
+HasOwnCause faults folder_before script_before script_now sink_before sink_now Done = ⊤
+HasOwnCause faults folder_before script_before script_now sink_before sink_now (Usage word) = (script_now ≡ script_before) × (sink_now ≡ sink_before)
+HasOwnCause faults folder_before script_before script_now sink_before sink_now OutOfMemory = ⊤
+HasOwnCause faults folder_before script_before script_now sink_before sink_now ScriptFault = Rose script_before script_now
+HasOwnCause faults folder_before script_before script_now sink_before sink_now (FolderFault word folder) = Rose folder_before (faults folder)
+HasOwnCause faults folder_before script_before script_now sink_before sink_now WriteFault = Rose sink_before sink_now
+HasOwnCause faults folder_before script_before script_now sink_before sink_now ScriptTooLong = ⊤
 
 -- the folder that is handed back is that of the word that was asked for, and tells the files that it told before
-abbrev pub HandsBack : {F : Type 0} → (F → Option (List File)) → Option Request → List (Option (List File)) → Status F → Type 0
-HandsBack files request files_before Done = ⊤
-HandsBack files request files_before (Usage word) = ⊤
-HandsBack files request files_before OutOfMemory = ⊤
-HandsBack files request files_before ScriptFault = ⊤
-HandsBack files request files_before (FolderFault word folder) = (files folder ≡ told_at word files_before) × IfSome request (λ asked. word ≡ asked.folder)
-HandsBack files request files_before WriteFault = ⊤
-HandsBack files request files_before ScriptTooLong = ⊤
+abbrev pub HandsBack : {F : Type 0} → (F → Option (List File)) → Option (List File) → Option ℕ → Status F → Type 0
+HandsBack files told asked Done = ⊤
+HandsBack files told asked (Usage word) = ⊤
+HandsBack files told asked OutOfMemory = ⊤
+HandsBack files told asked ScriptFault = ⊤
+HandsBack files told asked (FolderFault word folder) = (files folder ≡ told) × (asked ≡ Some word)
+HandsBack files told asked WriteFault = ⊤
+HandsBack files told asked ScriptTooLong = ⊤
+
+-- the status of a run that a fault ended, with the folder whose call failed
+abbrev pub IsFaultOf : {F : Type 0} → Fault → ℕ → (F → Option (List File)) → (F → ℕ) → Option (List File) → ℕ → Status F → Type 0
+IsFaultOf {F} fault.Folder word files faults told count status = (folder : F) × (status ≡ FolderFault word folder) × (files folder ≡ told) × (faults folder ≡ count)
+IsFaultOf {F} fault.Write word files faults told count status = status ≡ WriteFault
+IsFaultOf {F} fault.Memory word files faults told count status = status ≡ OutOfMemory
 
 -- an answer to lawful words and a short script where no count of the script or the sink rises
 abbrev pub IsComplete : {F : Type 0} → Status F → Type 0

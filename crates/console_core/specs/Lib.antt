@@ -6,3 +6,4 @@ pub mod Commands
 pub mod Runs
 pub mod Sessions
 pub mod Reading
+pub mod Ends

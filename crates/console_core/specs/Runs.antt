@@ -9,7 +9,6 @@ use Rattle.console_core.specs.Commands.{command, fits_in, until_zero}
 use Rattle.console_core.specs.declared.ends.Next.{Next}
 use Rattle.console_core.specs.declared.ends.Next.TheVariants.{Goes, Waits, Quits}
 use Rattle.console_core.specs.declared.ends.Fault.{Fault}
-use Rattle.console_core.specs.declared.ends.Fault.TheVariants as fault
 
 -- a run of commands: the state after it, the replies, and whether `quit` was executed
 pub record Ran : Type 0 where

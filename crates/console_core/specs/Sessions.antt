@@ -1,5 +1,5 @@
 -- What a session is seen as, and how its steps end.
-use Rattle.std.specs.Prelude.{ℕ, Bool, true, false, Result, Ok, Err}
+use Rattle.std.specs.Prelude.{Bool, true, false, Result, Ok, Err}
 use Rattle.mem_model.specs.Memory.{Memory}
 use Rattle.console_core.specs.States.{State}
 use Rattle.console_core.specs.declared.session.Session.{Session}

@@ -6,9 +6,16 @@ mod load;
 mod paths;
 mod script;
 mod session;
+mod status;
+mod top;
 mod verbs;
 mod words;
 
 pub use ends::StepEnd;
 pub use paths::{MountError, Paths};
 pub use session::Session;
+pub use status::{Status, exit_code, status_line};
+pub use top::quake_main;
+
+#[cfg(test)]
+mod tests;

@@ -64,4 +64,11 @@ impl<F: Folder> Paths<F> {
             None => Ok(()),
         }
     }
+
+    // The folder.
+    pub(crate) fn into_folder(self) -> Option<F>
+        ensures { result ≡ folder_of self }
+    {
+        self.folder
+    }
 }

@@ -7,7 +7,7 @@ ghost use Rattle.mem_model.specs.Operations.{low_free};
 ghost use Rattle.cmd_buffer.specs.Buffer.{text_of_command};
 ghost use Rattle.reply_pieces.specs.Pieces.{text_of};
 ghost use Rattle.console_core.specs.States.{Replies, Follows, HasCauses};
-ghost use Rattle.console_core.specs.Mounts.{told_files, count_of};
+ghost use Rattle.console_core.specs.Mounts.{told_files, count_of, folder_of};
 ghost use Rattle.console_core.specs.Loads.{load_low};
 ghost use Rattle.console_core.specs.Commands.{answer_echo, answer_file, answer_exec, file_named, exec_named, filed, executed, by_verb, by_words, by_text, command, spaced, until_zero, fits_in, exec_text, unknown, unknown_word};
 ghost use Rattle.console_core.specs.Sessions.{state_of, told_end, is_end};
@@ -363,6 +363,13 @@ impl<M: Store, F: Folder> Session<M, F> {
         let end = end_of(self.run_frame(true, out));
         self.ended = true;
         end
+    }
+
+    // The folder of the path.
+    pub(crate) fn into_folder(self) -> Option<F>
+        ensures { result ≡ folder_of self.paths }
+    {
+        self.paths.into_folder()
     }
 
     /// Whether the run has ended.

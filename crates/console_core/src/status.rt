@@ -5,30 +5,22 @@ ghost use Rattle.console_core.specs.Ends.{code_of, status_text};
 use arrayvec::ArrayString;
 use outside_io::Folder;
 
-/// What ended a line in the middle.
-#[derive(Clone, Copy, Debug, PartialEq, Eq)]
-pub enum Fault {
-    Folder,
-    Write,
-    Memory,
-}
-
 /// How a run ended. `quake_main` says what was put and taken then.
 #[derive(Drop)]
 pub enum Status<F: Folder = Box<dyn Folder>> {
-    /// The script was read to its end, and each of its lines was answered.
+    /// The script was read to its end and finished, or `quit` was executed.
     Done,
     /// The number of the first word that breaks the rule, or of words where one is missing.
     Usage { word: u32 },
     /// The host had no memory for a block.
     OutOfMemory,
-    /// A read of the script failed, before any line was run.
+    /// A read of the script failed. The lines that ended before it were run.
     ScriptFault,
     /// A call of the folder of this word failed. The folder is handed back with its counts.
     FolderFault { word: u32, folder: F },
     /// A put of a reply failed.
     WriteFault,
-    /// The script has more than 4096 bytes. No line was run.
+    /// The script has more than 1,048,576 bytes. The lines that ended before the byte past these were run.
     ScriptTooLong,
 }
 

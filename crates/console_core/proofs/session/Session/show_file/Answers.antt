@@ -1,4 +1,4 @@
-use Rattle.std.proofs.Common.{ap, refl, List, ℕ}
+use Rattle.std.proofs.Common.{ap, refl}
 use Rattle.mem_model.specs.Memory.{Memory}
 use Rattle.console_core.specs.Mounts.{told_files}
 use Rattle.console_core.specs.States.{State}
