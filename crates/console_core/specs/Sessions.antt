@@ -1,5 +1,5 @@
 -- What a session is seen as, and how its steps end.
-use Rattle.std.specs.Prelude.{Bool, true, false, Result, Ok, Err}
+use Rattle.std.specs.Prelude.{◌≡◌, Bool, true, false, Result, Ok, Err}
 use Rattle.mem_model.specs.Memory.{Memory}
 use Rattle.console_core.specs.States.{State}
 use Rattle.console_core.specs.declared.session.Session.{Session}
@@ -25,3 +25,11 @@ is_end Quit = true
 is_end (FolderFault folder) = true
 is_end WriteFault = true
 is_end OutOfMemory = true
+
+-- the folder whose call failed is the one of the path
+abbrev pub NamesTheFolder : StepEnd → Type 0
+NamesTheFolder Went = Unit {0}
+NamesTheFolder Quit = Unit {0}
+NamesTheFolder (FolderFault folder) = folder ≡ 0
+NamesTheFolder WriteFault = Unit {0}
+NamesTheFolder OutOfMemory = Unit {0}

@@ -1,5 +1,5 @@
 // The folders in which files are looked for.
-ghost use Rattle.std.specs.Prelude.{◌≡◌, ◌<◌, ◌≤◌, ◌^◌, length, IfOk, IfSome, OnOk, Some, None, option_map};
+ghost use Rattle.std.specs.Prelude.{◌≡◌, ◌<◌, ◌≤◌, ◌^◌, length, IfOk, IfSome, OnOk, OnErr, Some, None, option_map};
 ghost use Rattle.std.specs.Option.{ForSome};
 ghost use Rattle.outside_io.specs.Causes.{HasCause};
 ghost use Rattle.outside_io.specs.Files.{length_of, HasRange, IsPartOf};
@@ -34,6 +34,7 @@ impl<F: Folder> Paths<F> {
     pub fn mount(&mut self, _alloc: Global, folder: F) -> Result<(), MountError>
         requires { folder_of self.old ≡ None }
         ensures ok { OnOk result (folder_of self.new ≡ Some folder) }
+        ensures same { OnErr result (folder_of self.new ≡ folder_of self.old) }
     {
         self.folder = Some(folder);
         Ok(())

@@ -10,7 +10,7 @@ ghost use Rattle.console_core.specs.States.{Replies, Follows, HasCauses};
 ghost use Rattle.console_core.specs.Mounts.{told_files, count_of, folder_of};
 ghost use Rattle.console_core.specs.Loads.{load_low};
 ghost use Rattle.console_core.specs.Commands.{answer_echo, answer_file, answer_exec, file_named, exec_named, filed, executed, by_verb, by_words, by_text, command, spaced, until_zero, fits_in, exec_text, unknown, unknown_word};
-ghost use Rattle.console_core.specs.Sessions.{state_of, told_end, is_end};
+ghost use Rattle.console_core.specs.Sessions.{state_of, told_end, is_end, NamesTheFolder};
 ghost use Rattle.console_core.specs.Runs.{frame, finish, line, overflowed, input, ending, Runs};
 
 use crate::ends::{Fault, Next, StepEnd};
@@ -327,7 +327,7 @@ impl<M: Store, F: Folder> Session<M, F> {
         self.run_frame(false, out)
     }
 
-    pub(crate) fn run_line<O: Sink>(&mut self, text: &[u8], out: &mut O) -> Result<bool, Fault>
+    fn run_line<O: Sink>(&mut self, text: &[u8], out: &mut O) -> Result<bool, Fault>
         ensures told { IfSome (told_files F.files self.old.paths) (λ files. Runs (line files (state_of M.state self.old) text.now) result (state_of M.state self.new) (O.got out.old) (O.got out.new)) }
         ensures files { told_files F.files self.new.paths ≡ told_files F.files self.old.paths }
         ensures causes { HasCauses M.frugal (count_of F.folder_faults self.old.paths) (count_of F.folder_faults self.new.paths) (O.sink_faults out.old) (O.sink_faults out.new) result }
@@ -339,26 +339,33 @@ impl<M: Store, F: Folder> Session<M, F> {
         }
     }
 
-    /// Takes an input line, and runs a frame.
+    /// Takes an input line, and runs a frame. The session must not have ended.
+    ///
+    /// The line is cut at its first zero byte. It and a newline are added to the buffer; where they don't fit,
+    /// `overflow` is printed. The frame takes commands until the buffer is empty or `wait` was executed, at most 4096.
+    /// After a fault the replies before one reply were put, and what the fault left of that one.
     pub fn step<O: Sink>(&mut self, text: &[u8], out: &mut O) -> StepEnd
         requires going { self.old.ended ≡ false }
         ensures told { IfSome (told_files F.files self.old.paths) (λ files. Runs (line files (state_of M.state self.old) text.now) (told_end result) (state_of M.state self.new) (O.got out.old) (O.got out.new)) }
         ensures files { told_files F.files self.new.paths ≡ told_files F.files self.old.paths }
         ensures causes { HasCauses M.frugal (count_of F.folder_faults self.old.paths) (count_of F.folder_faults self.new.paths) (O.sink_faults out.old) (O.sink_faults out.new) (told_end result) }
         ensures ended { self.new.ended ≡ is_end result }
+        ensures folder { NamesTheFolder result }
     {
         let end = end_of(self.run_line(text, out));
         self.ended = ends_run(end);
         end
     }
 
-    /// Runs the frames after the script's end.
+    /// Runs the frames after the script's end, until the buffer is empty, with one budget of 4096 commands for all. The
+    /// session must not have ended, and has ended then.
     pub fn finish<O: Sink>(&mut self, out: &mut O) -> StepEnd
         requires going { self.old.ended ≡ false }
         ensures told { IfSome (told_files F.files self.old.paths) (λ files. Runs (finish files (state_of M.state self.old)) (told_end result) (state_of M.state self.new) (O.got out.old) (O.got out.new)) }
         ensures files { told_files F.files self.new.paths ≡ told_files F.files self.old.paths }
         ensures causes { HasCauses M.frugal (count_of F.folder_faults self.old.paths) (count_of F.folder_faults self.new.paths) (O.sink_faults out.old) (O.sink_faults out.new) (told_end result) }
         ensures ended { self.new.ended ≡ true }
+        ensures folder { NamesTheFolder result }
     {
         let end = end_of(self.run_frame(true, out));
         self.ended = true;
@@ -397,7 +404,8 @@ fn add_line(buffer: &mut CmdBuffer, text: &[u8]) -> bool
 
 // How a step ended.
 fn end_of(outcome: Result<bool, Fault>) -> StepEnd
-    ensures { told_end result ≡ outcome }
+    ensures told { told_end result ≡ outcome }
+    ensures folder { NamesTheFolder result }
 {
     match outcome {
         Ok(false) => StepEnd::Went,
