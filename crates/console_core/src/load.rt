@@ -3,7 +3,7 @@ ghost use Rattle.std.specs.Prelude.{◌≡◌, ◌≤◌, ◌++◌, length, drop
 ghost use Rattle.std.specs.Option.{ForSome};
 ghost use Rattle.outside_io.specs.Causes.{Rose, HasCause};
 ghost use Rattle.outside_io.specs.Files.{bytes_of, HasRange};
-ghost use Rattle.mem_model.specs.Laid.{IsText};
+ghost use Rattle.mem_model.specs.Laid.{Laid, IsText};
 ghost use Rattle.mem_model.specs.Hunk.{low_bytes};
 ghost use Rattle.console_core.specs.Mounts.{told_files, count_of};
 ghost use Rattle.console_core.specs.Loads.{load_into, load_low, Loads};
@@ -55,6 +55,7 @@ fn load_into<M: Store, F: Folder>(
     requires text { IsText block_name.now }
     ensures told { IfSome (told_files F.files paths.old) (λ files. Loads (load_into files (M.state store.old) name.now block_name.now) result (M.state store.new)) }
     ensures there { IfOk result (λ loaded. IsSomeAnd (low_bytes (M.state store.new) loaded.place.0) (λ bytes. loaded.length ≤ length bytes)) }
+    ensures laid { Laid (M.state store.old) → Laid (M.state store.new) }
     ensures files { told_files F.files paths.new ≡ told_files F.files paths.old }
     ensures faults { count_of F.folder_faults paths.old ≤ count_of F.folder_faults paths.new }
     ensures fault { IsErrOf result LoadError.FolderFault → Rose (count_of F.folder_faults paths.old) (count_of F.folder_faults paths.new) }
@@ -85,6 +86,7 @@ pub fn load<M: Store, F: Folder>(
 ) -> Result<Loaded, LoadError>
     ensures told { IfSome (told_files F.files paths.old) (λ files. Loads (load_low files (M.state store.old) name.now) result (M.state store.new)) }
     ensures there { IfOk result (λ loaded. IsSomeAnd (low_bytes (M.state store.new) loaded.place.0) (λ bytes. loaded.length ≤ length bytes)) }
+    ensures laid { Laid (M.state store.old) → Laid (M.state store.new) }
     ensures files { told_files F.files paths.new ≡ told_files F.files paths.old }
     ensures faults { count_of F.folder_faults paths.old ≤ count_of F.folder_faults paths.new }
     ensures fault { IsErrOf result LoadError.FolderFault → Rose (count_of F.folder_faults paths.old) (count_of F.folder_faults paths.new) }

@@ -2,6 +2,7 @@
 ghost use Rattle.std.specs.Prelude.{◌≡◌, ◌<◌, ◌≤◌, ◌++◌, [], length, drop, IfSome, OnOk, OnErr, IfOk, IfErr, IsSomeAnd, take, position, ◌==◌, if◌then◌else◌, false, true, codes};
 ghost use Rattle.outside_io.specs.Causes.{Rose};
 ghost use Rattle.outside_io.specs.Streams.{Adds, AddsFront};
+ghost use Rattle.mem_model.specs.Laid.{Laid};
 ghost use Rattle.mem_model.specs.Hunk.{low_bytes};
 ghost use Rattle.mem_model.specs.Operations.{low_free};
 ghost use Rattle.cmd_buffer.specs.Buffer.{text_of_command};
@@ -74,6 +75,7 @@ impl<M: Store, F: Folder> Session<M, F> {
     fn show_file<O: Sink>(&mut self, name: &GameName, out: &mut O) -> Result<Next, Fault>
         ensures told { IfSome (told_files F.files self.old.paths) (λ files. Follows (filed (state_of M.state self.old) name.now (load_low files (M.state self.old.store) name.now)) result (state_of M.state self.new) (O.got out.old) (O.got out.new)) }
         ensures files { told_files F.files self.new.paths ≡ told_files F.files self.old.paths }
+        ensures laid { Laid (M.state self.old.store) → Laid (M.state self.new.store) }
         ensures causes { HasCauses M.frugal (count_of F.folder_faults self.old.paths) (count_of F.folder_faults self.new.paths) (O.sink_faults out.old) (O.sink_faults out.new) result }
     {
         match load(&mut self.store, &mut self.paths, name) {
@@ -116,6 +118,7 @@ impl<M: Store, F: Folder> Session<M, F> {
     fn file_named<O: Sink>(&mut self, name: Option<GameName>, out: &mut O) -> Result<Next, Fault>
         ensures told { IfSome (told_files F.files self.old.paths) (λ files. Follows (file_named files (state_of M.state self.old) name) result (state_of M.state self.new) (O.got out.old) (O.got out.new)) }
         ensures files { told_files F.files self.new.paths ≡ told_files F.files self.old.paths }
+        ensures laid { Laid (M.state self.old.store) → Laid (M.state self.new.store) }
         ensures causes { HasCauses M.frugal (count_of F.folder_faults self.old.paths) (count_of F.folder_faults self.new.paths) (O.sink_faults out.old) (O.sink_faults out.new) result }
     {
         match name {
@@ -127,6 +130,7 @@ impl<M: Store, F: Folder> Session<M, F> {
     fn file<O: Sink>(&mut self, words: &Words<'_>, out: &mut O) -> Result<Next, Fault>
         ensures told { IfSome (told_files F.files self.old.paths) (λ files. Follows (answer_file files (state_of M.state self.old) words.now) result (state_of M.state self.new) (O.got out.old) (O.got out.new)) }
         ensures files { told_files F.files self.new.paths ≡ told_files F.files self.old.paths }
+        ensures laid { Laid (M.state self.old.store) → Laid (M.state self.new.store) }
         ensures causes { HasCauses M.frugal (count_of F.folder_faults self.old.paths) (count_of F.folder_faults self.new.paths) (O.sink_faults out.old) (O.sink_faults out.new) result }
     {
         self.file_named(game_name(words.word(1)).ok(), out)
@@ -139,6 +143,7 @@ impl<M: Store, F: Folder> Session<M, F> {
         ensures fits { IfSome (low_bytes (M.state self.old.store) loaded.place.0) (λ bytes. result ≡ fits_in (until_zero (take loaded.length bytes)) self.old.buffer) }
         ensures memory { M.state self.new.store ≡ (low_free (M.state self.old.store) mark).after }
         ensures paths { self.new.paths ≡ self.old.paths }
+        ensures laid { Laid (M.state self.old.store) → Laid (M.state self.new.store) }
     {
         let bytes = self.store.low_bytes(loaded.place);
         let inserted = self
@@ -153,6 +158,7 @@ impl<M: Store, F: Folder> Session<M, F> {
     fn execute<O: Sink>(&mut self, name: &GameName, out: &mut O) -> Result<Next, Fault>
         ensures told { IfSome (told_files F.files self.old.paths) (λ files. Follows (executed (state_of M.state self.old) name.now (load_low files (M.state self.old.store) name.now).after (load_low files (M.state self.old.store) name.now).load) result (state_of M.state self.new) (O.got out.old) (O.got out.new)) }
         ensures files { told_files F.files self.new.paths ≡ told_files F.files self.old.paths }
+        ensures laid { Laid (M.state self.old.store) → Laid (M.state self.new.store) }
         ensures causes { HasCauses M.frugal (count_of F.folder_faults self.old.paths) (count_of F.folder_faults self.new.paths) (O.sink_faults out.old) (O.sink_faults out.new) result }
     {
         let mark = self.store.low_mark();
@@ -187,6 +193,7 @@ impl<M: Store, F: Folder> Session<M, F> {
     fn exec_named<O: Sink>(&mut self, name: Option<GameName>, out: &mut O) -> Result<Next, Fault>
         ensures told { IfSome (told_files F.files self.old.paths) (λ files. Follows (exec_named files (state_of M.state self.old) name) result (state_of M.state self.new) (O.got out.old) (O.got out.new)) }
         ensures files { told_files F.files self.new.paths ≡ told_files F.files self.old.paths }
+        ensures laid { Laid (M.state self.old.store) → Laid (M.state self.new.store) }
         ensures causes { HasCauses M.frugal (count_of F.folder_faults self.old.paths) (count_of F.folder_faults self.new.paths) (O.sink_faults out.old) (O.sink_faults out.new) result }
     {
         match name {
@@ -198,6 +205,7 @@ impl<M: Store, F: Folder> Session<M, F> {
     fn exec<O: Sink>(&mut self, words: &Words<'_>, out: &mut O) -> Result<Next, Fault>
         ensures told { IfSome (told_files F.files self.old.paths) (λ files. Follows (answer_exec files (state_of M.state self.old) words.now) result (state_of M.state self.new) (O.got out.old) (O.got out.new)) }
         ensures files { told_files F.files self.new.paths ≡ told_files F.files self.old.paths }
+        ensures laid { Laid (M.state self.old.store) → Laid (M.state self.new.store) }
         ensures causes { HasCauses M.frugal (count_of F.folder_faults self.old.paths) (count_of F.folder_faults self.new.paths) (O.sink_faults out.old) (O.sink_faults out.new) result }
     {
         self.exec_named(game_name(words.word(1)).ok(), out)
@@ -206,6 +214,7 @@ impl<M: Store, F: Folder> Session<M, F> {
     fn echo<O: Sink>(&mut self, words: &Words<'_>, out: &mut O) -> Result<Next, Fault>
         ensures told { IfSome (told_files F.files self.old.paths) (λ files. Follows (answer_echo (state_of M.state self.old) words.now) result (state_of M.state self.new) (O.got out.old) (O.got out.new)) }
         ensures files { told_files F.files self.new.paths ≡ told_files F.files self.old.paths }
+        ensures laid { Laid (M.state self.old.store) → Laid (M.state self.new.store) }
         ensures causes { HasCauses M.frugal (count_of F.folder_faults self.old.paths) (count_of F.folder_faults self.new.paths) (O.sink_faults out.old) (O.sink_faults out.new) result }
     {
         put_echo(words, out)
@@ -214,6 +223,7 @@ impl<M: Store, F: Folder> Session<M, F> {
     fn unknown_word<O: Sink>(&mut self, word: &[u8], out: &mut O) -> Result<Next, Fault>
         ensures told { IfSome (told_files F.files self.old.paths) (λ files. Follows (unknown_word (state_of M.state self.old) word.now) result (state_of M.state self.new) (O.got out.old) (O.got out.new)) }
         ensures files { told_files F.files self.new.paths ≡ told_files F.files self.old.paths }
+        ensures laid { Laid (M.state self.old.store) → Laid (M.state self.new.store) }
         ensures causes { HasCauses M.frugal (count_of F.folder_faults self.old.paths) (count_of F.folder_faults self.new.paths) (O.sink_faults out.old) (O.sink_faults out.new) result }
     {
         reply(
@@ -230,6 +240,7 @@ impl<M: Store, F: Folder> Session<M, F> {
     fn unknown<O: Sink>(&mut self, words: &Words<'_>, out: &mut O) -> Result<Next, Fault>
         ensures told { IfSome (told_files F.files self.old.paths) (λ files. Follows (unknown (state_of M.state self.old) words.now) result (state_of M.state self.new) (O.got out.old) (O.got out.new)) }
         ensures files { told_files F.files self.new.paths ≡ told_files F.files self.old.paths }
+        ensures laid { Laid (M.state self.old.store) → Laid (M.state self.new.store) }
         ensures causes { HasCauses M.frugal (count_of F.folder_faults self.old.paths) (count_of F.folder_faults self.new.paths) (O.sink_faults out.old) (O.sink_faults out.new) result }
     {
         self.unknown_word(words.word(0), out)
@@ -244,6 +255,7 @@ impl<M: Store, F: Folder> Session<M, F> {
     ) -> Result<Next, Fault>
         ensures told { IfSome (told_files F.files self.old.paths) (λ files. Follows (by_verb files (state_of M.state self.old) words.now verb) result (state_of M.state self.new) (O.got out.old) (O.got out.new)) }
         ensures files { told_files F.files self.new.paths ≡ told_files F.files self.old.paths }
+        ensures laid { Laid (M.state self.old.store) → Laid (M.state self.new.store) }
         ensures causes { HasCauses M.frugal (count_of F.folder_faults self.old.paths) (count_of F.folder_faults self.new.paths) (O.sink_faults out.old) (O.sink_faults out.new) result }
     {
         match verb {
@@ -259,6 +271,7 @@ impl<M: Store, F: Folder> Session<M, F> {
     fn run_words<O: Sink>(&mut self, words: &Words<'_>, out: &mut O) -> Result<Next, Fault>
         ensures told { IfSome (told_files F.files self.old.paths) (λ files. Follows (by_words files (state_of M.state self.old) words.now) result (state_of M.state self.new) (O.got out.old) (O.got out.new)) }
         ensures files { told_files F.files self.new.paths ≡ told_files F.files self.old.paths }
+        ensures laid { Laid (M.state self.old.store) → Laid (M.state self.new.store) }
         ensures causes { HasCauses M.frugal (count_of F.folder_faults self.old.paths) (count_of F.folder_faults self.new.paths) (O.sink_faults out.old) (O.sink_faults out.new) result }
     {
         if words.count() == 0 {
@@ -270,6 +283,7 @@ impl<M: Store, F: Folder> Session<M, F> {
     fn run_taken<O: Sink>(&mut self, taken: &Command, out: &mut O) -> Result<Next, Fault>
         ensures told { IfSome (told_files F.files self.old.paths) (λ files. Follows (by_text files (state_of M.state self.old) (text_of_command taken.now)) result (state_of M.state self.new) (O.got out.old) (O.got out.new)) }
         ensures files { told_files F.files self.new.paths ≡ told_files F.files self.old.paths }
+        ensures laid { Laid (M.state self.old.store) → Laid (M.state self.new.store) }
         ensures causes { HasCauses M.frugal (count_of F.folder_faults self.old.paths) (count_of F.folder_faults self.new.paths) (O.sink_faults out.old) (O.sink_faults out.new) result }
     {
         match taken {
@@ -283,6 +297,7 @@ impl<M: Store, F: Folder> Session<M, F> {
         requires some { 0 < length self.old.buffer }
         ensures told { IfSome (told_files F.files self.old.paths) (λ files. Follows (command files (state_of M.state self.old)) result (state_of M.state self.new) (O.got out.old) (O.got out.new)) }
         ensures files { told_files F.files self.new.paths ≡ told_files F.files self.old.paths }
+        ensures laid { Laid (M.state self.old.store) → Laid (M.state self.new.store) }
         ensures causes { HasCauses M.frugal (count_of F.folder_faults self.old.paths) (count_of F.folder_faults self.new.paths) (O.sink_faults out.old) (O.sink_faults out.new) result }
     {
         match self.buffer.take() {
@@ -295,6 +310,7 @@ impl<M: Store, F: Folder> Session<M, F> {
     fn run_frame<O: Sink>(&mut self, through: bool, out: &mut O) -> Result<bool, Fault>
         ensures told { IfSome (told_files F.files self.old.paths) (λ files. Runs (frame through files 4096 (state_of M.state self.old)) result (state_of M.state self.new) (O.got out.old) (O.got out.new)) }
         ensures files { told_files F.files self.new.paths ≡ told_files F.files self.old.paths }
+        ensures laid { Laid (M.state self.old.store) → Laid (M.state self.new.store) }
         ensures causes { HasCauses M.frugal (count_of F.folder_faults self.old.paths) (count_of F.folder_faults self.new.paths) (O.sink_faults out.old) (O.sink_faults out.new) result }
     {
         let mut budget = MOST;
@@ -319,6 +335,7 @@ impl<M: Store, F: Folder> Session<M, F> {
     fn run_overflow<O: Sink>(&mut self, out: &mut O) -> Result<bool, Fault>
         ensures told { IfSome (told_files F.files self.old.paths) (λ files. Runs (overflowed files (state_of M.state self.old)) result (state_of M.state self.new) (O.got out.old) (O.got out.new)) }
         ensures files { told_files F.files self.new.paths ≡ told_files F.files self.old.paths }
+        ensures laid { Laid (M.state self.old.store) → Laid (M.state self.new.store) }
         ensures causes { HasCauses M.frugal (count_of F.folder_faults self.old.paths) (count_of F.folder_faults self.new.paths) (O.sink_faults out.old) (O.sink_faults out.new) result }
     {
         if let Err(_) = out.put(b"overflow\n") {
@@ -330,6 +347,7 @@ impl<M: Store, F: Folder> Session<M, F> {
     fn run_line<O: Sink>(&mut self, text: &[u8], out: &mut O) -> Result<bool, Fault>
         ensures told { IfSome (told_files F.files self.old.paths) (λ files. Runs (line files (state_of M.state self.old) text.now) result (state_of M.state self.new) (O.got out.old) (O.got out.new)) }
         ensures files { told_files F.files self.new.paths ≡ told_files F.files self.old.paths }
+        ensures laid { Laid (M.state self.old.store) → Laid (M.state self.new.store) }
         ensures causes { HasCauses M.frugal (count_of F.folder_faults self.old.paths) (count_of F.folder_faults self.new.paths) (O.sink_faults out.old) (O.sink_faults out.new) result }
     {
         if add_line(&mut self.buffer, text) {
@@ -348,6 +366,7 @@ impl<M: Store, F: Folder> Session<M, F> {
         requires going { self.old.ended ≡ false }
         ensures told { IfSome (told_files F.files self.old.paths) (λ files. Runs (line files (state_of M.state self.old) text.now) (told_end result) (state_of M.state self.new) (O.got out.old) (O.got out.new)) }
         ensures files { told_files F.files self.new.paths ≡ told_files F.files self.old.paths }
+        ensures laid { Laid (M.state self.old.store) → Laid (M.state self.new.store) }
         ensures causes { HasCauses M.frugal (count_of F.folder_faults self.old.paths) (count_of F.folder_faults self.new.paths) (O.sink_faults out.old) (O.sink_faults out.new) (told_end result) }
         ensures ended { self.new.ended ≡ is_end result }
         ensures folder { NamesTheFolder result }
@@ -363,6 +382,7 @@ impl<M: Store, F: Folder> Session<M, F> {
         requires going { self.old.ended ≡ false }
         ensures told { IfSome (told_files F.files self.old.paths) (λ files. Runs (finish files (state_of M.state self.old)) (told_end result) (state_of M.state self.new) (O.got out.old) (O.got out.new)) }
         ensures files { told_files F.files self.new.paths ≡ told_files F.files self.old.paths }
+        ensures laid { Laid (M.state self.old.store) → Laid (M.state self.new.store) }
         ensures causes { HasCauses M.frugal (count_of F.folder_faults self.old.paths) (count_of F.folder_faults self.new.paths) (O.sink_faults out.old) (O.sink_faults out.new) (told_end result) }
         ensures ended { self.new.ended ≡ true }
         ensures folder { NamesTheFolder result }

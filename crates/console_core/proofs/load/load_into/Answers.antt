@@ -1,5 +1,6 @@
 use Rattle.std.proofs.Common.{arith, refl}
 use Rattle.std.proofs.lemmas.List.{length-replicate}
+use Rattle.mem_model.proofs.Laying.{Laid-with_low_bytes}
 use Rattle.console_core.specs.Mounts.{told_files}
 use Rattle.mem_model.proofs.Laws.{low_bytes-written}
 use Rattle.console_core.proofs.Loading.{not_found, no_room, there, zeros, done}
@@ -38,3 +39,9 @@ returns-clause-there g c =
     let fresh = zeros (g.M.Store.state c.args.store.now) (g.M.Store.state c.low_alloc.new.self) c.in-Some.len c.in-Ok-low_alloc.place.0 c.args.block_name.now _ c.low_alloc.ensures.was_laid gives.answer gives.after c.low_bytes_mut.ensures.shows in
     let written = low_bytes-written _ _ _ c.fill.new.into c.low_bytes_mut.ensures.shows c.fill.auto.into in
     rw (g.met.M.Store.low_writes, written) (rw (c.fill.auto.into, fresh, length-replicate) (omega arith))
+
+pub returns-in-Err-clause-laid : goal.returns-in-Err-clause-laid
+returns-in-Err-clause-laid g c = λ before. rw g.met.M.Store.low_writes (Laid-with_low_bytes _ _ _ c.low_alloc.ensures.laid)
+
+pub returns-clause-laid : goal.returns-clause-laid
+returns-clause-laid g c = λ before. rw g.met.M.Store.low_writes (Laid-with_low_bytes _ _ _ c.low_alloc.ensures.laid)
