@@ -1,6 +1,7 @@
-ghost use Rattle.std.specs.Prelude.{◌≡◌, IfOk, vec_len};
+ghost use Rattle.std.specs.Prelude.{◌≡◌, IfOk, false, length, vec_len};
 
-use crate::{Status, exit_code, quake_main, status_line};
+use crate::{Paths, Session, Status, StepEnd, exit_code, quake_main, status_line};
+use mem_model::PlainStore;
 use outside_io::{Folder, MemFile, MemFolder, MemSink, MemSource, Sink, Source};
 use std::alloc::{AllocError, Global};
 use std::process::Abort;
@@ -8,24 +9,46 @@ use std::test::Fail;
 
 const WORDS: [&str; 3] = ["-heapsize", "1024", "d"];
 
-fn zeros(alloc: Global, name: &str, length: usize) -> Result<MemFile, AllocError>
+// What the folder of the last word has as `a.cfg`, and which of its calls fail.
+#[derive(Clone, Copy)]
+struct Disk<'a> {
+    config: &'a [u8],
+    fails: &'a [u64],
+}
+
+const PLAIN: Disk<'static> = Disk {
+    config: b"",
+    fails: &[],
+};
+
+fn file(alloc: Global, name: &[u8], bytes: &[u8]) -> Result<MemFile, AllocError>
+    ensures { IfOk result (λ file. vec_len file.bytes ≡ length bytes.now) }
+{
+    Ok(MemFile {
+        name: Vec::from_slice(alloc, name)?,
+        bytes: Vec::from_slice(alloc, bytes)?,
+    })
+}
+
+fn zeros(alloc: Global, name: &[u8], length: usize) -> Result<MemFile, AllocError>
     ensures { IfOk result (λ file. vec_len file.bytes ≡ length) }
 {
     Ok(MemFile {
-        name: Vec::from_slice(alloc, name.as_bytes())?,
+        name: Vec::from_slice(alloc, name)?,
         bytes: vec![in alloc; 0u8; length]?,
     })
 }
 
 // A folder of files. In a heap of 1024 kilobytes `big` just fits, and `bigger` doesn't.
-fn filled(alloc: Global, fails: &[u64]) -> Result<Box<dyn Folder>, AllocError> {
+fn filled(rt: &impl Abort, alloc: Global, disk: &Disk<'_>) -> Result<Box<dyn Folder>, AllocError> {
+    assert!(rt; disk.config.len() < 10_000);
     let mut files = Vec::new(alloc);
-    files.push(zeros(alloc, "a.txt", 5)?)?;
-    files.push(zeros(alloc, "maps/m0.bsp", 16)?)?;
-    files.push(zeros(alloc, "a..b", 0)?)?;
-    files.push(zeros(alloc, "big", 999_391)?)?;
-    files.push(zeros(alloc, "bigger", 999_392)?)?;
-    let folder = MemFolder::create(files, Vec::from_slice(alloc, fails)?);
+    files.push(file(alloc, b"a.cfg", disk.config)?)?;
+    files.push(file(alloc, b"a.txt", b"hello")?)?;
+    files.push(zeros(alloc, b"maps/m0.bsp", 16)?)?;
+    files.push(zeros(alloc, b"big", 999_391)?)?;
+    files.push(zeros(alloc, b"bigger", 999_392)?)?;
+    let folder = MemFolder::create(files, Vec::from_slice(alloc, disk.fails)?);
     Ok(Box::new(alloc, folder)?)
 }
 
@@ -35,14 +58,28 @@ fn empty(alloc: Global) -> Result<Box<dyn Folder>, AllocError> {
     Ok(Box::new(alloc, folder)?)
 }
 
-// A script that is read whole at once.
-fn source(alloc: Global, text: &[u8], fails: &[u64]) -> Result<MemSource, AllocError> {
-    let bytes = Vec::from_slice(alloc, text)?;
-    Ok(MemSource::create(bytes, 8192, Vec::from_slice(alloc, fails)?))
+// A script of this text, then so many of this byte, and then the other text.
+fn text(
+    alloc: Global,
+    head: &str,
+    byte: u8,
+    count: usize,
+    tail: &str,
+) -> Result<Vec<u8>, AllocError> {
+    let mut text = Vec::from_slice(alloc, head.as_bytes())?;
+    text.extend_from_slice(&vec![in alloc; byte; count]?)?;
+    text.extend_from_slice(tail.as_bytes())?;
+    Ok(text)
 }
 
-fn sink(alloc: Global, fails: &[u64]) -> Result<MemSink, AllocError> {
-    MemSink::create(alloc, 1000, Vec::from_slice(alloc, fails)?)
+// A script of which a read gives as much as it is asked for.
+fn source(alloc: Global, text: &[u8]) -> Result<MemSource, AllocError> {
+    let bytes = Vec::from_slice(alloc, text)?;
+    Ok(MemSource::create(bytes, 10_000, Vec::new(alloc)))
+}
+
+fn sink(alloc: Global) -> Result<MemSink, AllocError> {
+    MemSink::create(alloc, 100_000, Vec::new(alloc))
 }
 
 // How many bytes the next read takes, or `None` where it fails.
@@ -50,22 +87,23 @@ fn bytes_read(script: &mut MemSource) -> Option<usize> {
     script.read(&mut [0; 8192]).ok()
 }
 
-// Runs a script. The folder of word 2 has files, and its calls of these numbers fail.
+// Runs a script. The folders of all words but the last one are empty, and fail.
 fn run(
     rt: &impl Abort,
     alloc: Global,
     words: &[&str],
-    fails: &[u64],
+    disk: &Disk<'_>,
     script: &mut MemSource,
     out: &mut MemSink,
 ) -> Result<Status, AllocError> {
     let mut names = Vec::new(alloc);
     let mut folders: Vec<Box<dyn Folder>> = Vec::new(alloc);
-    for (number, word) in words.iter().enumerate() {
+    for word in words {
         names.push(String::from_str(alloc, word)?)?;
-        let folder = match number {
-            2 => filled(alloc, fails)?,
-            _ => empty(alloc)?,
+        let folder = if names.len() == words.len() {
+            filled(rt, alloc, disk)?
+        } else {
+            empty(alloc)?
         };
         folders.push(folder)?;
     }
@@ -80,50 +118,256 @@ fn check_end(rt: &impl Abort, status: &Status, out: &MemSink, code: u8, line: &s
     assert_eq!(rt; out.got(), put.as_bytes(), "for {put}");
 }
 
+// Runs a script that is read to its end, on the smallest heap, and compares what it puts.
+fn check_answers(
+    rt: &impl Abort,
+    alloc: Global,
+    config: &[u8],
+    text: &[u8],
+    put: &str,
+) -> Result<(), AllocError> {
+    let mut script = source(alloc, text)?;
+    let mut out = sink(alloc)?;
+    let disk = Disk { config, fails: &[] };
+    let status = run(rt, alloc, &WORDS, &disk, &mut script, &mut out)?;
+    check_end(rt, &status, &out, 0, "", put);
+    assert_eq!(rt; bytes_read(&mut script), Some(0), "after {put}");
+    Ok(())
+}
+
 #[test]
-fn scripts_are_answered(rt: HostRuntime) -> Result<(), Fail> {
-    let alloc = rt.alloc();
+fn commands_are_answered(rt: HostRuntime) -> Result<(), Fail> {
     let cases = [
+        ("", ""),
+        ("\n;;\n \n ; // x\n", ""),
+        ("echo\necho a  b", "\na b \n"),
+        ("echo \"a b\" c//d", "a b c//d \n"),
+        ("echo x:y", "x : y \n"),
+        ("echo a // b; echo c", "a \nc \n"),
+        ("echo a // \"; echo b", "a \n"),
+        ("echo \"a; echo b\necho c", "a; echo b \nc \n"),
+        ("echo a\0b\necho c\0; quit\necho d", "a \nc \nd \n"),
+        ("echo a; wait; echo b\necho c", "a \nb \nc \n"),
+        ("echo a; wait; echo b", "a \nb \n"),
+        ("wait;wait;echo a\n\nWAIT\necho b", "a \nb \n"),
+        ("echo a; quit; echo b", "a \n"),
+        ("wait;quit;echo a", ""),
+        ("wait;quit;echo a\necho b\necho c", ""),
         (
-            "1024",
-            "file a.txt\nfile b.txt\nnothing",
-            "file a.txt 5 at 49184\nnot found: b.txt\nnot built\n",
-        ),
-        ("1024", "", ""),
-        ("1024", "\n\n\n", ""),
-        (
-            "1024",
-            "\nfile a.txt\n\nfile a.txt\n",
-            "file a.txt 5 at 49184\nfile a.txt 5 at 49216\n",
-        ),
-        (
-            "1024",
-            "file maps/m0.bsp\nfile a..b\nfile A.TXT\nfile a.txt",
-            "file maps/m0.bsp 16 at 49184\nfile a..b 0 at 49232\nnot found: A.TXT\nfile a.txt 5 at 49264\n",
-        ),
-        (
-            "1024",
-            "file ../a\nfile /a\nfile a b\nfile \nfile\nFILE a.txt\nfile a:b\nfile  a.txt",
-            "not built\nnot built\nnot built\nnot built\nnot built\nnot built\nnot built\nnot built\n",
+            "ECHO a\nFile a.txt\nEXEC b\nqUiT\necho b",
+            "a \nfile a.txt 5 at 49184\ncouldn't exec b\n",
         ),
         (
-            "1024",
-            "file bigger\nfile big\nfile a..b",
+            "x\nfiles a.txt;\"\" a\necho a",
+            "Unknown command \"x\"\nUnknown command \"files\"\nUnknown command \"\"\na \n",
+        ),
+        (
+            "file;file ../a\nfile /a;file \"a:b\";file \"\"",
+            "bad name\nbad name\nbad name\nbad name\nbad name\n",
+        ),
+        ("exec;exec ../x", "bad name\nbad name\n"),
+        (
+            "file a.txt\nfile b.txt;file maps/m0.bsp x;file A.TXT",
+            "file a.txt 5 at 49184\nnot found: b.txt\nfile maps/m0.bsp 16 at 49216\nnot found: A.TXT\n",
+        ),
+        (
+            "file bigger;file big;exec a.cfg",
             "failed on 999424 bytes\nfile big 999391 at 49184\nfailed on 32 bytes\n",
         ),
         (
-            "65536",
-            "file bigger\nfile big",
-            "file bigger 999392 at 49184\nfile big 999391 at 1048608\n",
+            "exec a.cfg; echo x\nfile a.txt",
+            "execing a.cfg\nhi echo x \nfile a.txt 5 at 49184\n",
+        ),
+        (
+            "exec none.cfg\nwait;exec a.cfg;x\n;",
+            "couldn't exec none.cfg\nexecing a.cfg\nhix \n",
         ),
     ];
-    for (heap, script, put) in cases {
-        let mut script = source(alloc, script.as_bytes(), &[])?;
-        let mut out = sink(alloc, &[])?;
-        let words = ["-heapsize", heap, "d"];
-        let status = run(&rt, alloc, &words, &[], &mut script, &mut out)?;
-        check_end(&rt, &status, &out, 0, "", put);
-        assert_eq!(rt; bytes_read(&mut script), Some(0), "after {put}");
+    for (text, put) in cases {
+        check_answers(&rt, rt.alloc(), b"echo hi", text.as_bytes(), put)?;
+    }
+    Ok(())
+}
+
+#[test]
+fn executed_files_come_before_what_is_left(rt: HostRuntime) -> Result<(), Fail> {
+    let alloc = rt.alloc();
+    let cases = [
+        ("", b' ', 0, "", "x \n"),
+        ("echo a", b';', 1, "", "a \nx \n"),
+        ("echo a\nwait;echo b;", b' ', 0, "", "a \nb \nx \n"),
+        ("quit;", b' ', 0, "", ""),
+        ("echo a", b'\0', 1, ";quit", "a echo x \n"),
+        ("file a.txt;", b' ', 0, "", "file a.txt 5 at 49184\nx \n"),
+        ("", b' ', 8183, "", "line too long\n"),
+        ("", b' ', 8184, "", "overflow\nx \n"),
+    ];
+    for (head, byte, count, tail, put) in cases {
+        let config = text(alloc, head, byte, count, tail)?;
+        let mut want = String::from_str(alloc, "execing a.cfg\n")?;
+        want.push_str(put)?;
+        check_answers(&rt, alloc, &config, b"exec a.cfg; echo x", &want)?;
+    }
+    Ok(())
+}
+
+#[test]
+fn lines_and_frames_have_limits(rt: HostRuntime) -> Result<(), Fail> {
+    let alloc = rt.alloc();
+    let cases = [
+        ("", b' ', 1023, "\necho on", "on \n"),
+        ("", b' ', 1024, "\necho on", "line too long\non \n"),
+        ("", b'x', 1030, "", "line too long\n"),
+        ("", b'x', 8190, "", "line too long\n"),
+        ("", b'x', 8191, "", "overflow\n"),
+        ("", b'x', 8190, "\necho on", "line too long\non \n"),
+        ("", b'x', 8191, "\necho on", "overflow\non \n"),
+        ("", b'x', 20_000, "\necho on", "overflow\non \n"),
+        ("echo a\0", b'x', 20_000, "\necho on", "a \non \n"),
+        (
+            "wait;echo a\n",
+            b'x',
+            8183,
+            "\necho on",
+            "a \nline too long\non \n",
+        ),
+        (
+            "wait;echo a\n",
+            b'x',
+            8184,
+            "\necho on",
+            "overflow\na \non \n",
+        ),
+        ("", b';', 4095, "\necho on", "on \n"),
+        ("", b';', 4096, "\necho on", "runaway\non \n"),
+        ("", b';', 8190, "", "runaway\n"),
+        ("", b';', 4095, "wait;echo a\necho on", "a \non \n"),
+        ("", b';', 4095, "echo a\n", "a \n"),
+        ("", b';', 4095, "quit;\n", ""),
+        ("wait", b';', 4096, "", ""),
+        ("wait", b';', 4097, "", "runaway\n"),
+        ("wait", b';', 4095, "wait;wait;echo a", "runaway\n"),
+    ];
+    for (head, byte, count, tail, put) in cases {
+        let text = text(alloc, head, byte, count, tail)?;
+        check_answers(&rt, alloc, b"", &text, put)?;
+    }
+    Ok(())
+}
+
+#[test]
+fn a_file_that_executes_itself_runs_away(rt: HostRuntime) -> Result<(), Fail> {
+    let alloc = rt.alloc();
+    let mut want = String::new(alloc);
+    for _ in 0..4096 {
+        want.push_str("execing a.cfg\n")?;
+    }
+    want.push_str("runaway\non \n")?;
+    check_answers(&rt, alloc, b"exec a.cfg\n", b"exec a.cfg\necho on", &want)?;
+    Ok(())
+}
+
+#[test]
+fn a_long_script_is_refused(rt: HostRuntime) -> Result<(), Fail> {
+    let alloc = rt.alloc();
+    let long = "script too long";
+    for (head, byte, count, tail, code, line, put, left) in [
+        ("", b'\n', 1_048_576, "", 0, "", "", 0),
+        ("", b'\n', 1_048_577, "", 8, long, "", 0),
+        ("echo a\n", b'x', 1_048_569, "", 0, "", "a \noverflow\n", 0),
+        ("echo a\n", b'x', 1_048_569, "\necho b", 8, long, "a \n", 6),
+        (
+            "wait;echo a\n",
+            b'x',
+            1_048_563,
+            "\n\n",
+            8,
+            long,
+            "overflow\na \n",
+            0,
+        ),
+        (
+            "",
+            b'x',
+            1_048_563,
+            "\nwait;echo a\nb",
+            8,
+            long,
+            "overflow\n",
+            0,
+        ),
+        (
+            "",
+            b'x',
+            1_048_570,
+            "\nquit\necho b",
+            0,
+            "",
+            "overflow\n",
+            6,
+        ),
+    ] {
+        let text = text(alloc, head, byte, count, tail)?;
+        let mut script = source(alloc, &text)?;
+        let mut out = sink(alloc)?;
+        let status = run(&rt, alloc, &WORDS, &PLAIN, &mut script, &mut out)?;
+        check_end(&rt, &status, &out, code, line, put);
+        assert_eq!(rt; bytes_read(&mut script), Some(left), "{head} {tail}");
+    }
+    Ok(())
+}
+
+#[test]
+fn lines_are_run_before_the_next_read(rt: HostRuntime) -> Result<(), Fail> {
+    let alloc = rt.alloc();
+    let fault = "script read fault";
+    for (text, piece, fails, code, line, put, left) in [
+        ("echo a\n", 7, 1, 5, fault, "a \n", 0),
+        ("echo a\n", 7, 0, 5, fault, "", 7),
+        ("echo a\necho b", 8, 1, 5, fault, "a \n", 5),
+        ("echo a\necho b", 13, 1, 5, fault, "a \n", 0),
+        ("wait;echo a\n", 12, 1, 5, fault, "", 0),
+        (
+            "echo a\necho b\nx",
+            3,
+            9,
+            0,
+            "",
+            "a \nb \nUnknown command \"x\"\n",
+            0,
+        ),
+        ("echo a;quit;echo b\necho c\n", 19, 9, 0, "", "a \n", 7),
+        ("echo a\nquit\nx\necho b", 12, 9, 0, "", "a \n", 8),
+        ("echo a;quit", 11, 9, 0, "", "a \n", 0),
+        ("echo a;quit", 11, 1, 5, fault, "", 0),
+    ] {
+        let bytes = Vec::from_slice(alloc, text.as_bytes())?;
+        let mut script = MemSource::create(bytes, piece, Vec::from_slice(alloc, &[fails])?);
+        let mut out = sink(alloc)?;
+        let status = run(&rt, alloc, &WORDS, &PLAIN, &mut script, &mut out)?;
+        check_end(&rt, &status, &out, code, line, put);
+        assert_eq!(rt; bytes_read(&mut script), Some(left), "{text} at {fails}");
+    }
+    Ok(())
+}
+
+#[test]
+fn a_failed_put_is_told(rt: HostRuntime) -> Result<(), Fail> {
+    let alloc = rt.alloc();
+    for (head, count, capacity, fails, put) in [
+        ("echo abc", 0, 3, 99, "abc"),
+        ("echo abc", 0, 4, 99, "abc "),
+        ("echo abc", 0, 99, 0, ""),
+        ("echo abc\nx", 0, 12, 99, "abc \nUnknown"),
+        ("echo abc\nexec a.cfg", 0, 15, 99, "abc \nexecing a."),
+        ("echo abc\n", 8191, 9, 99, "abc \nover"),
+        ("echo abc;", 4095, 8, 99, "abc \nrun"),
+    ] {
+        let text = text(alloc, head, b';', count, "\necho on")?;
+        let mut script = source(alloc, &text)?;
+        let mut out = MemSink::create(alloc, capacity, Vec::from_slice(alloc, &[fails])?)?;
+        let status = run(&rt, alloc, &WORDS, &PLAIN, &mut script, &mut out)?;
+        check_end(&rt, &status, &out, 7, "write fault", put);
     }
     Ok(())
 }
@@ -131,8 +375,10 @@ fn scripts_are_answered(rt: HostRuntime) -> Result<(), Fail> {
 #[test]
 fn faulty_words_leave_all_untouched(rt: HostRuntime) -> Result<(), Fail> {
     let alloc = rt.alloc();
-    let cases: [(&[&str], u32); 13] = [
+    let cases: [(&[&str], u32); 18] = [
         (&[], 0),
+        (&[""], 0),
+        (&["-x"], 0),
         (&["-heap", "1024", "d"], 0),
         (&["-heapsize"], 1),
         (&["-heapsize", "12", "d"], 1),
@@ -140,17 +386,21 @@ fn faulty_words_leave_all_untouched(rt: HostRuntime) -> Result<(), Fail> {
         (&["-heapsize", "65537", "d"], 1),
         (&["-heapsize", "+1024", "d"], 1),
         (&["-heapsize", "d", "-d"], 1),
+        (&["d", "e"], 1),
+        (&["d", "-heapsize", "1024"], 1),
         (&["-heapsize", "1024"], 2),
         (&["-heapsize", "1024", ""], 2),
         (&["-heapsize", "1024", "-d"], 2),
         (&["-heapsize", "1024", "-d", "e"], 2),
+        (&["-heapsize", "1024", "-heapsize", "2048", "d"], 2),
         (&["-heapsize", "1024", "d", "e"], 3),
     ];
     let usage = "usage: quake_cli [-heapsize KB] [-zone KB] [-speed HZ] folder ...";
     for (words, number) in cases {
-        let mut script = source(alloc, b"nothing", &[0])?;
-        let mut out = sink(alloc, &[0])?;
-        let status = run(&rt, alloc, words, &[], &mut script, &mut out)?;
+        let bytes = Vec::from_slice(alloc, b"echo a\n")?;
+        let mut script = MemSource::create(bytes, 99, Vec::from_slice(alloc, &[0])?);
+        let mut out = MemSink::create(alloc, 99, Vec::from_slice(alloc, &[0])?)?;
+        let status = run(&rt, alloc, words, &PLAIN, &mut script, &mut out)?;
         check_end(&rt, &status, &out, 1, usage, "");
         assert!(rt;
             matches!(status, Status::Usage { word } if word == number),
@@ -165,54 +415,23 @@ fn faulty_words_leave_all_untouched(rt: HostRuntime) -> Result<(), Fail> {
 }
 
 #[test]
-fn a_long_script_is_not_run(rt: HostRuntime) -> Result<(), Fail> {
+fn the_heap_has_its_size(rt: HostRuntime) -> Result<(), Fail> {
     let alloc = rt.alloc();
-    let long = "script too long";
-    for (length, code, line, put, left) in [
-        (4096, 0, "", "not built\n", 0),
-        (4097, 8, long, "", 0),
-        (5000, 8, long, "", 903),
-    ] {
-        let text = vec![in alloc; b'x'; length]?;
-        let mut script = source(alloc, &text, &[])?;
-        let mut out = sink(alloc, &[])?;
-        let status = run(&rt, alloc, &WORDS, &[], &mut script, &mut out)?;
-        check_end(&rt, &status, &out, code, line, put);
-        assert_eq!(rt; bytes_read(&mut script), Some(left), "of {length}");
-    }
-    Ok(())
-}
-
-#[test]
-fn a_failed_read_is_told(rt: HostRuntime) -> Result<(), Fail> {
-    let alloc = rt.alloc();
-    for (fails, left) in [(0, 8), (1, 8), (2, 2), (3, 0)] {
-        let text = Vec::from_slice(alloc, b"file a.txt\nnothing".as_slice())?;
-        let mut script = MemSource::create(text, 8, Vec::from_slice(alloc, &[fails])?);
-        let mut out = sink(alloc, &[])?;
-        let status = run(&rt, alloc, &WORDS, &[], &mut script, &mut out)?;
-        check_end(&rt, &status, &out, 5, "script read fault", "");
-        assert_eq!(rt; bytes_read(&mut script), Some(left), "at {fails}");
-    }
-    Ok(())
-}
-
-#[test]
-fn a_failed_put_is_told(rt: HostRuntime) -> Result<(), Fail> {
-    let alloc = rt.alloc();
-    let cases: [(usize, &[u64], &str); 5] = [
-        (1000, &[0], ""),
-        (0, &[], ""),
-        (3, &[], "not"),
-        (12, &[], "not built\nfi"),
-        (31, &[], "not built\nfile a.txt 5 at 49184"),
+    let text = b"file bigger;file big";
+    let both = "file bigger 999392 at 49184\nfile big 999391 at 1048608\n";
+    let cases: [(&[&str], &str); 3] = [
+        (&["d"], both),
+        (&["-heapsize", "65536", "d"], both),
+        (
+            &["-heapsize", "1024", "d"],
+            "failed on 999424 bytes\nfile big 999391 at 49184\n",
+        ),
     ];
-    for (capacity, fails, put) in cases {
-        let mut script = source(alloc, b"nothing\nfile a.txt\nnothing", &[])?;
-        let mut out = MemSink::create(alloc, capacity, Vec::from_slice(alloc, fails)?)?;
-        let status = run(&rt, alloc, &WORDS, &[], &mut script, &mut out)?;
-        check_end(&rt, &status, &out, 7, "write fault", put);
-        assert_eq!(rt; bytes_read(&mut script), Some(0), "after {put}");
+    for (words, put) in cases {
+        let mut script = source(alloc, text)?;
+        let mut out = sink(alloc)?;
+        let status = run(&rt, alloc, words, &PLAIN, &mut script, &mut out)?;
+        check_end(&rt, &status, &out, 0, "", put);
     }
     Ok(())
 }
@@ -220,16 +439,28 @@ fn a_failed_put_is_told(rt: HostRuntime) -> Result<(), Fail> {
 #[test]
 fn a_fault_hands_the_folder_back(rt: HostRuntime) -> Result<(), Fail> {
     let alloc = rt.alloc();
-    let first = "file a.txt 5 at 49184\n";
-    let second = "file a.txt 5 at 49184\nnot found: b.txt\n";
-    for (fails, put) in [(0, ""), (1, ""), (2, first), (3, second), (4, second)] {
-        let mut script = source(alloc, b"file a.txt\nfile b.txt\nfile a.txt", &[])?;
-        let mut out = sink(alloc, &[])?;
-        let status = run(&rt, alloc, &WORDS, &[fails], &mut script, &mut out)?;
+    let first = "x \nfile a.txt 5 at 49184\n";
+    let second = "x \nfile a.txt 5 at 49184\nexecing a.cfg\nhi \n";
+    let cases: [(&[&str], u32, u64, &str); 6] = [
+        (&["d"], 0, 0, "x \n"),
+        (&["d"], 0, 4, second),
+        (&WORDS, 2, 1, "x \n"),
+        (&WORDS, 2, 2, first),
+        (&WORDS, 2, 3, first),
+        (&WORDS, 2, 4, second),
+    ];
+    for (words, number, fails, put) in cases {
+        let mut script = source(alloc, b"echo x;file a.txt\nexec a.cfg\nfile b.txt\necho y")?;
+        let mut out = sink(alloc)?;
+        let disk = Disk {
+            config: b"echo hi",
+            fails: &[fails],
+        };
+        let status = run(&rt, alloc, words, &disk, &mut script, &mut out)?;
         check_end(&rt, &status, &out, 6, "folder read fault", put);
         match status {
             Status::FolderFault { word, folder } => {
-                assert_eq!(rt; word, 2, "at {fails}");
+                assert_eq!(rt; word, number, "at {fails}");
                 assert_eq!(rt; folder.faults_seen(), 1, "at {fails}");
                 assert_eq!(rt; folder.calls_seen(), fails + 1, "at {fails}");
             }
@@ -241,7 +472,71 @@ fn a_fault_hands_the_folder_back(rt: HostRuntime) -> Result<(), Fail> {
 
 #[test]
 fn want_of_memory_is_told(rt: HostRuntime) -> Result<(), Fail> {
-    let out = sink(rt.alloc(), &[])?;
+    let out = sink(rt.alloc())?;
     check_end(&rt, &Status::OutOfMemory, &out, 2, "out of memory", "");
+    Ok(())
+}
+
+// A session over a new store and a folder whose call of this number fails.
+fn session(rt: &impl Abort, alloc: Global, fails: u64) -> Result<Session<PlainStore>, Fail>
+    ensures { IfOk result (λ session. session.ended ≡ false) }
+{
+    let store = PlainStore::create(alloc, 1_048_576, 49_152, 768)?;
+    let mut paths = Paths::create(alloc)?;
+    let disk = Disk {
+        config: b"echo hi",
+        fails: &[fails],
+    };
+    paths.mount(alloc, filled(rt, alloc, &disk)?)?;
+    Ok(Session::start(store, paths)?)
+}
+
+#[test]
+fn a_session_ends_by_itself(rt: HostRuntime) -> Result<(), Fail> {
+    let cases: [(&[u8], u64, StepEnd, &str); 5] = [
+        (b"echo b", 9, StepEnd::Went, "a \nb \n"),
+        (b"echo b;quit;echo c", 9, StepEnd::Quit, "a \nb \n"),
+        (
+            b"file a.txt;echo b",
+            0,
+            StepEnd::FolderFault { folder: 0 },
+            "a \n",
+        ),
+        (b"exec a.cfg", 1, StepEnd::FolderFault { folder: 0 }, "a \n"),
+        (b"echo b01234567", 9, StepEnd::WriteFault, "a \nb0123456"),
+    ];
+    for (text, fails, end, put) in cases {
+        let mut out = MemSink::create(rt.alloc(), 11, Vec::new(rt.alloc()))?;
+        let mut session = session(&rt, rt.alloc(), fails)?;
+        assert_eq!(rt; session.step(b"echo a", &mut out), StepEnd::Went);
+        assert!(rt; !session.ended(), "before {put}");
+        assert_eq!(rt; session.step(text, &mut out), end, "at {put}");
+        assert_eq!(rt; session.ended(), end != StepEnd::Went, "at {put}");
+        assert_eq!(rt; out.got(), put.as_bytes());
+    }
+    Ok(())
+}
+
+#[test]
+fn a_session_is_finished(rt: HostRuntime) -> Result<(), Fail> {
+    let cases: [(&[u8], u64, StepEnd, &str); 3] = [
+        (b"wait;echo a;wait;echo b", 9, StepEnd::Went, "a \nb \n"),
+        (b"wait;echo a;quit;echo b", 9, StepEnd::Quit, "a \n"),
+        (
+            b"wait;echo a;file b",
+            0,
+            StepEnd::FolderFault { folder: 0 },
+            "a \n",
+        ),
+    ];
+    for (text, fails, end, put) in cases {
+        let mut out = sink(rt.alloc())?;
+        let mut session = session(&rt, rt.alloc(), fails)?;
+        assert_eq!(rt; session.step(text, &mut out), StepEnd::Went, "at {put}");
+        assert!(rt; !session.ended(), "before {put}");
+        assert_eq!(rt; session.finish(&mut out), end, "at {put}");
+        assert!(rt; session.ended(), "after {put}");
+        assert_eq!(rt; out.got(), put.as_bytes());
+    }
     Ok(())
 }
