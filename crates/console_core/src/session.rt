@@ -1,5 +1,5 @@
 // A session of the console.
-ghost use Rattle.std.specs.Prelude.{◌≡◌, ◌<◌, ◌≤◌, ◌++◌, [], length, drop, IfSome, OnOk, OnErr, IfOk, IfErr, IsSomeAnd, take, position, ◌==◌, if◌then◌else◌, false, true, codes};
+ghost use Rattle.std.specs.Prelude.{◌≡◌, ◌<◌, ◌≤◌, ◌++◌, ◌∷◌, [], length, drop, IfSome, OnOk, OnErr, IfOk, IfErr, IsSomeAnd, take, position, ◌==◌, if◌then◌else◌, false, true, codes};
 ghost use Rattle.outside_io.specs.Causes.{Rose};
 ghost use Rattle.outside_io.specs.Streams.{Adds, AddsFront};
 ghost use Rattle.mem_model.specs.Laid.{Laid};
@@ -22,7 +22,7 @@ use base_fields::{GameName, game_name};
 use cmd_buffer::{CmdBuffer, Command, Words, tokenize};
 use mem_model::Store;
 use outside_io::{Folder, Sink};
-use reply_pieces::{Piece, put_all};
+use reply_pieces::{Piece, Reply, put_all};
 use std::alloc::AllocError;
 
 // How many bytes the buffer holds.
@@ -509,10 +509,26 @@ fn put_echo<O: Sink>(words: &Words<'_>, out: &mut O) -> Result<Next, Fault>
     ensures write { OnErr result (Rose (O.sink_faults out.old) (O.sink_faults out.new)) }
     ensures faults { O.sink_faults out.old ≤ O.sink_faults out.new }
 {
+    let mut line = Reply::new();
     for number in 1..words.count() {
-        if let Err(_) = put_all(out, &[Piece::Text(words.word(number)), Piece::Text(b" ")]) {
+        if let Err(_) = line.add_all(&[Piece::Text(words.word(number)), Piece::Text(b" ")], out) {
             return Err(Fault::Write);
         }
     }
-    reply(out, Next::Goes, &[Piece::Text(b"\n")])
+    end_echo(line, out)
+}
+
+// Ends the line of words.
+fn end_echo<O: Sink>(mut line: Reply, out: &mut O) -> Result<Next, Fault>
+    ensures replies { Replies (line ++ 10 ∷ []) Next.Goes result (O.got out.old) (O.got out.new) }
+    ensures write { OnErr result (Rose (O.sink_faults out.old) (O.sink_faults out.new)) }
+    ensures faults { O.sink_faults out.old ≤ O.sink_faults out.new }
+{
+    if let Err(_) = line.add(&Piece::Text(b"\n"), out) {
+        return Err(Fault::Write);
+    }
+    match line.finish(out) {
+        Ok(()) => Ok(Next::Goes),
+        Err(_) => Err(Fault::Write),
+    }
 }

@@ -1,26 +1,9 @@
-use Rattle.std.proofs.Common.{ℕ, ◌+◌, ◌<◌, List, ◌++◌, length, drop, get_or, Option, ap, subst, arith}
-use Rattle.std.proofs.lemmas.List.{drop_more}
-use Rattle.outside_io.specs.Streams.{Adds, AddsFront}
-use Rattle.outside_io.proofs.Puts.{PutSoFar, one_put, front_put}
-use Rattle.reply_pieces.specs.Pieces.{piece_text, text_of}
-use Rattle.reply_pieces.specs.declared.Piece.{Piece}
+use Rattle.reply_pieces.specs.Pieces.{text_of}
+use Rattle.reply_pieces.proofs.Holding.{so_far_held, failed_last, all_ok}
 use Rattle.reply_pieces.proofs.put_all.Goals as goal
 
-module _ (pieces : List Piece) (i : ℕ) (d : Piece) (inside : i < length pieces) (start mid now : Option (List ℕ)) (so_far : PutSoFar (text_of pieces) start (text_of (drop i pieces)) mid) where
-  here : PutSoFar (text_of pieces) start (piece_text (get_or pieces i d) ++ text_of (drop (i + 1) pieces)) mid
-  here = subst (λ r. PutSoFar (text_of pieces) start r mid) (ap text_of (drop_more pieces i d inside)) so_far
+pub returns-clause-added : goal.returns-clause-added
+returns-clause-added g c = all_ok c.finish.result (text_of c.args.pieces.now) _ _ _ _ (rw c.new-reply.ensures at c.in_default.ensures.added) c.finish.ensures.added
 
-  more : Adds (piece_text (get_or pieces i d)) mid now → PutSoFar (text_of pieces) start (text_of (drop (i + 1) pieces)) now
-  more added = one_put (text_of pieces) (piece_text (get_or pieces i d)) (text_of (drop (i + 1) pieces)) start mid now here added
-
-  cut : AddsFront (piece_text (get_or pieces i d)) mid now → AddsFront (text_of pieces) start now
-  cut part = front_put (text_of pieces) (piece_text (get_or pieces i d)) (text_of (drop (i + 1) pieces)) start mid now here part
-
-pub loop-piece-preserved : goal.loop-piece-preserved
-loop-piece-preserved g c = record {
-  put = more c.args.pieces.now c.loop-piece.piece-index _ (omega arith) _ _ _ c.loop-piece.invariant.put c.in_default.ensures.added;
-  faults = omega arith;
-}
-
-pub returns-in-Err-clause-part : goal.returns-in-Err-clause-part
-returns-in-Err-clause-part g c = cut c.args.pieces.now c.loop-piece.piece-index _ (omega arith) _ _ _ c.loop-piece.invariant.put c.in-Err.ensures.part
+pub returns-clause-part : goal.returns-clause-part
+returns-clause-part g c = failed_last c.finish.result (text_of c.args.pieces.now) _ _ _ _ (so_far_held (text_of c.args.pieces.now) _ _ _ (g.O.Sink.got c.finish.new.out) (rw c.new-reply.ensures at c.in_default.ensures.added)) c.finish.ensures.part
