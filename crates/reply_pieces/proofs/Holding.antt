@@ -16,8 +16,8 @@ failed_after (Err error) first second start mid now added part = front_after fir
 module _ (whole held piece rest : List ℕ) (start mid now : Option (List ℕ)) (so_far : PutSoFar whole start (held ++ (piece ++ rest)) mid) where
   pub next_held : (held2 : List ℕ) → HoldsBack (held ++ piece) held2 mid now → PutSoFar whole start (held2 ++ rest) now
   next_held held2 holds =
-    let same : held ++ (piece ++ rest) ≡ holds.0 ++ (held2 ++ rest) = sym (append_assoc held piece rest) ∙ ap (λ l. l ++ rest) (sym holds.1) ∙ append_assoc holds.0 held2 rest in
-    one_put whole holds.0 (held2 ++ rest) start mid now (subst (λ r. PutSoFar whole start r mid) same so_far) holds.2
+      let same : held ++ (piece ++ rest) ≡ holds.0 ++ (held2 ++ rest) = sym (append_assoc held piece rest) ∙ ap (λ l. l ++ rest) (sym holds.1) ∙ append_assoc holds.0 held2 rest in
+      one_put whole holds.0 (held2 ++ rest) start mid now (subst (λ r. PutSoFar whole start r mid) same so_far) holds.2
 
   pub held_front : AddsFront (held ++ piece) mid now → AddsFront whole start now
   held_front part = front_put whole (held ++ piece) rest start mid now (subst (λ r. PutSoFar whole start r mid) (sym (append_assoc held piece rest)) so_far) part

@@ -16,7 +16,7 @@ fn pieces_are_put_in_order(rt: HostRuntime) -> Result<(), Fail> {
     let cases: [(usize, u64, &[u8], bool); 4] = [
         (100, 9, b"file 18446744073709551615 at 0", true),
         (28, 9, b"file 18446744073709551615 at", false),
-        (30, 3, b"file 18446744073709551615", false),
+        (30, 1, b"file 18446744073709551615 at 0", true),
         (30, 0, b"", false),
     ];
     for (capacity, fails, want, whole) in cases {
@@ -24,6 +24,21 @@ fn pieces_are_put_in_order(rt: HostRuntime) -> Result<(), Fail> {
         let mut out = MemSink::create(alloc, capacity, fails)?;
         assert_eq!(rt; put_all(&mut out, &pieces).is_ok(), whole, "at {capacity}");
         assert_eq!(rt; out.got(), want, "at {capacity}");
+    }
+    Ok(())
+}
+
+// A reply that is too long to be held back is put in two.
+#[test]
+fn a_long_reply_is_put_in_two(rt: HostRuntime) -> Result<(), Fail> {
+    let alloc = rt.alloc();
+    let long = vec![in alloc; b'x'; 1190]?;
+    let pieces = [Piece::Text(&long), Piece::Text(b"0123456789abcdef")];
+    for (fails, put, whole) in [(9, 1206, true), (1, 1190, false), (0, 0, false)] {
+        let fails = Vec::from_slice(alloc, &[fails])?;
+        let mut out = MemSink::create(alloc, 2000, fails)?;
+        assert_eq!(rt; put_all(&mut out, &pieces).is_ok(), whole, "for {put}");
+        assert_eq!(rt; out.got().len(), put, "for {put}");
     }
     Ok(())
 }

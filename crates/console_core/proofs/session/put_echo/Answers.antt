@@ -1,6 +1,6 @@
 use Rattle.std.proofs.Common.{◌<◌, ◌≤◌, ◌+◌, ℕ, List, [], ◌∷◌, ◌++◌, length, get_or, drop, Option, Result, Ok, Err, ap, subst, arith, refl, sym, ◌∙◌}
 use Rattle.std.proofs.lemmas.List.{drop_more, drop_all, append-nil}
-use Rattle.outside_io.specs.Streams.{Adds, AddsFront}
+use Rattle.outside_io.specs.Streams.{AddsFront}
 use Rattle.outside_io.proofs.Puts.{PutSoFar, one_put, front_put, all_put}
 use Rattle.reply_pieces.specs.Pieces.{HoldsBack}
 use Rattle.reply_pieces.proofs.Holding.{next_held, held_front}
