@@ -5,3 +5,5 @@ pub mod Cuts
 pub mod Calling
 pub mod Laws
 pub mod Pushes
+pub mod HighLaying
+pub mod HighCuts

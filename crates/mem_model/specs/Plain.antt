@@ -2,7 +2,7 @@
 use Rattle.std.specs.Prelude.{ℕ, ◌≡◌, ◌<◌, List, Some, length, slice_get, slice_set, take}
 use Rattle.mem_model.specs.Blocks.{HunkBlock}
 use Rattle.mem_model.specs.Memory.{size_of}
-use Rattle.mem_model.specs.Hunk.{bytes_above, with_bytes_above, with_bytes, cut_above}
+use Rattle.mem_model.specs.Hunk.{bytes_above, with_bytes_above, with_bytes, cut_above, cut_from}
 
 -- The block of this payload's place is that at position i.
 pub record IsAt (blocks : List HunkBlock) (place i : ℕ) : Type 0 where
@@ -14,4 +14,9 @@ pub record IsAt (blocks : List HunkBlock) (place i : ℕ) : Type 0 where
 pub record IsCut (blocks : List HunkBlock) (mark n : ℕ) : Type 0 where
   pub some : 0 < n
   pub kept : cut_above blocks mark ≡ Some (take n blocks)
+  pub ends : size_of (take n blocks) ≡ mark
+
+-- The mark keeps the first n high blocks, which end there.
+pub record IsHighCut (blocks : List HunkBlock) (mark n : ℕ) : Type 0 where
+  pub kept : cut_from 0 blocks mark ≡ Some (take n blocks)
   pub ends : size_of (take n blocks) ≡ mark

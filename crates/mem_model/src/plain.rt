@@ -1,11 +1,15 @@
 //! A store over vectors.
 
-ghost use Rattle.std.specs.Prelude.{◌≡◌, ◌<◌, ◌≤◌, ◌^◌, ◌↔◌, IfOk, Err, IsSome, MatchOption, None};
+ghost use Rattle.std.specs.Prelude.{◌≡◌, ◌<◌, ◌≤◌, ◌^◌, ◌↔◌, IfOk, Err, IsSome, MatchOption, None, false};
+ghost use Rattle.std.specs.List.{AllByRecursion};
 ghost use Rattle.mem_model.specs.Memory.{new_memory, size_of};
-ghost use Rattle.mem_model.specs.Hunk.{bytes_above, cut_above};
+ghost use Rattle.mem_model.specs.Hunk.{bytes_above, cut_above, cut_from, without_temp};
+ghost use Rattle.mem_model.specs.Operations.{high_taken};
+ghost use Rattle.mem_model.specs.Answer.{Gives};
+ghost use Rattle.mem_model.specs.Told.{room_answer};
 ghost use Rattle.mem_model.specs.Places.{hunk_need};
-ghost use Rattle.mem_model.specs.Plain.{IsAt, IsCut};
-ghost use Rattle.mem_model.specs.Laid.{IsMultiple, AreLowBlocks};
+ghost use Rattle.mem_model.specs.Plain.{IsAt, IsCut, IsHighCut};
+ghost use Rattle.mem_model.specs.Laid.{Laid, IsMultiple, IsText, IsHunkBlock, AreLowBlocks};
 
 use crate::answers::{BadMark, Place, RoomError, StoreStart};
 use crate::cells::{CacheCell, HunkCell, ZoneCell, add};
@@ -86,6 +90,24 @@ fn kept_by(cells: &[HunkCell], used: u32, mark: u32) -> Option<usize>
     if end == mark { Some(kept) } else { None }
 }
 
+// How many high blocks a mark keeps. It looks from the newest too.
+fn high_kept_by(cells: &[HunkCell], used: u32, mark: u32) -> Option<usize>
+    requires used { used ≡ size_of cells.now }
+    requires laid { AllByRecursion IsHunkBlock cells.now }
+    ensures { MatchOption result (cut_from 0 cells.now mark ≡ None) (λ n. IsHighCut cells.now mark n) }
+{
+    let mut end = used;
+    let mut kept = cells.len();
+    while mark < end {
+        kept -= 1;
+        end -= cells[kept].size();
+    }
+    if end != mark {
+        return None;
+    }
+    Some(kept)
+}
+
 impl PlainStore {
     /// A store of `size` bytes with a zone of `zone` bytes, all free, and an empty cache for this many users.
     ///
@@ -119,6 +141,40 @@ impl PlainStore {
             cache: Vec::new(alloc),
             recency: Vec::new(alloc),
         })
+    }
+
+    // Frees the temporary block, where one is active.
+    fn free_temp(&mut self)
+        ensures freed { self.new ≡ without_temp self.old }
+        ensures was_laid { Laid self.old }
+        ensures quiet { self.old.event_room ≡ 0 }
+    {
+        if let Some(mark) = self.temp {
+            let kept = self.high.len() - 1;
+            self.high.truncate(kept);
+            self.high_used = mark;
+            self.temp = None;
+        }
+    }
+
+    // Adds a high block, where no temporary block is active.
+    fn take_high(&mut self, size: u64, name: &[u8]) -> Result<Place, RoomError>
+        requires size { size ≤ 2 ^ 62 }
+        requires name { IsText name.now }
+        requires no_temp { self.old.temp ≡ None }
+        ensures gives { Gives (high_taken self.old size name.now) false self.old (room_answer result) self.new }
+        ensures laid { Laid self.new }
+    {
+        let need = hunk_need(size);
+        let room = u64::from(self.room());
+        if room < need {
+            return Err(RoomError::NoRoom { asked: need, room });
+        }
+        let used = self.high_used + need as u32;
+        let cell = HunkCell::zeroed(self.alloc, need as u32, name)?;
+        add(&mut self.high, cell)?;
+        self.high_used = used;
+        Ok(Place(self.size - used + 16))
     }
 }
 
@@ -165,6 +221,46 @@ impl Store for PlainStore {
     fn low_bytes_mut(&mut self, place: Place) -> &mut [u8] {
         let at = position_at(&self.low, self.low_used, place.0);
         self.low[at].bytes_mut()
+    }
+
+    fn high_alloc(&mut self, size: u64, name: &[u8]) -> Result<Place, RoomError> {
+        self.free_temp();
+        self.take_high(size, name)
+    }
+
+    fn high_mark(&mut self) -> u32 {
+        self.free_temp();
+        self.high_used
+    }
+
+    fn high_free(&mut self, mark: u32) -> Result<(), BadMark> {
+        self.free_temp();
+        let Some(kept) = high_kept_by(&self.high, self.high_used, mark) else {
+            return Err(BadMark { mark });
+        };
+        self.high.truncate(kept);
+        self.high_used = mark;
+        Ok(())
+    }
+
+    fn temp_alloc(&mut self, size: u64) -> Result<Place, RoomError> {
+        self.free_temp();
+        let mark = self.high_used;
+        match self.take_high(size.div_ceil(16) * 16, b"temp") {
+            Ok(place) => {
+                self.temp = Some(mark);
+                Ok(place)
+            }
+            Err(error) => Err(error),
+        }
+    }
+
+    fn high_used(&self) -> u32 {
+        self.high_used
+    }
+
+    fn temp_active(&self) -> bool {
+        self.temp.is_some()
     }
 
     fn size(&self) -> u32 {
