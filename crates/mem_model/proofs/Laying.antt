@@ -105,7 +105,7 @@ Laid-with_low_uncached m b laid block fits empty =
     rw (pushed_up_empty m.cache (low_used m + b.size) (high_start m) empty) at grown
 
 -- What is written over bytes has as many.
-length-over : (old bytes : List ℕ) → length (over old bytes) ≡ length old
+pub length-over : (old bytes : List ℕ) → length (over old bytes) ≡ length old
 unfolding over
 length-over old bytes = simp (length-take, length-append, length-drop) (omega arith)
 

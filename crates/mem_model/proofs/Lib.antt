@@ -7,3 +7,4 @@ pub mod Laws
 pub mod Pushes
 pub mod HighLaying
 pub mod HighCuts
+pub mod Newest

@@ -3,12 +3,12 @@
 ghost use Rattle.std.specs.Prelude.{◌≡◌, ◌<◌, ◌≤◌, ◌^◌, ◌↔◌, IfOk, Err, IsSome, MatchOption, None, false};
 ghost use Rattle.std.specs.List.{AllByRecursion};
 ghost use Rattle.mem_model.specs.Memory.{new_memory, size_of};
-ghost use Rattle.mem_model.specs.Hunk.{bytes_above, cut_above, cut_from, without_temp};
+ghost use Rattle.mem_model.specs.Hunk.{bytes_above, cut_above, cut_from, last_bytes, without_temp};
 ghost use Rattle.mem_model.specs.Operations.{high_taken};
 ghost use Rattle.mem_model.specs.Answer.{Gives};
 ghost use Rattle.mem_model.specs.Told.{room_answer};
 ghost use Rattle.mem_model.specs.Places.{hunk_need};
-ghost use Rattle.mem_model.specs.Plain.{IsAt, IsCut, IsHighCut};
+ghost use Rattle.mem_model.specs.Plain.{IsAt, IsCut, IsHighCut, IsLast};
 ghost use Rattle.mem_model.specs.Laid.{Laid, IsMultiple, IsText, IsHunkBlock, AreLowBlocks};
 
 use crate::answers::{BadMark, Place, RoomError, StoreStart};
@@ -108,6 +108,14 @@ fn high_kept_by(cells: &[HunkCell], used: u32, mark: u32) -> Option<usize>
     Some(kept)
 }
 
+// The position of the newest block.
+fn last_of(cells: &[HunkCell]) -> usize
+    requires { IsSome (last_bytes cells.now) }
+    ensures { IsLast cells.now result }
+{
+    cells.len() - 1
+}
+
 impl PlainStore {
     /// A store of `size` bytes with a zone of `zone` bytes, all free, and an empty cache for this many users.
     ///
@@ -165,13 +173,13 @@ impl PlainStore {
         ensures gives { Gives (high_taken self.old size name.now) false self.old (room_answer result) self.new }
         ensures laid { Laid self.new }
     {
-        let need = hunk_need(size);
+        let asked = hunk_need(size);
         let room = u64::from(self.room());
-        if room < need {
-            return Err(RoomError::NoRoom { asked: need, room });
+        if asked > room {
+            return Err(RoomError::NoRoom { asked, room });
         }
-        let used = self.high_used + need as u32;
-        let cell = HunkCell::zeroed(self.alloc, need as u32, name)?;
+        let used = self.high_used + asked as u32;
+        let cell = HunkCell::zeroed(self.alloc, asked as u32, name)?;
         add(&mut self.high, cell)?;
         self.high_used = used;
         Ok(Place(self.size - used + 16))
@@ -180,13 +188,15 @@ impl PlainStore {
 
 impl Store for PlainStore {
     ghost use Rattle.std.specs.Prelude.{false, refl};
-    ghost use Rattle.mem_model.specs.Hunk.{with_low_bytes};
+    ghost use Rattle.mem_model.specs.Hunk.{with_low_bytes, with_temp_bytes};
 
     ghost state = { λ m. m };
 
     ghost frugal = { false };
 
     ghost low_written = { with_low_bytes };
+
+    ghost temp_written = { with_temp_bytes };
 
     fn low_alloc(&mut self, size: u64, name: &[u8]) -> Result<Place, RoomError> {
         let need = hunk_need(size);
@@ -235,12 +245,14 @@ impl Store for PlainStore {
 
     fn high_free(&mut self, mark: u32) -> Result<(), BadMark> {
         self.free_temp();
-        let Some(kept) = high_kept_by(&self.high, self.high_used, mark) else {
-            return Err(BadMark { mark });
-        };
-        self.high.truncate(kept);
-        self.high_used = mark;
-        Ok(())
+        match high_kept_by(&self.high, self.high_used, mark) {
+            Some(kept) => {
+                self.high.truncate(kept);
+                self.high_used = mark;
+                Ok(())
+            }
+            None => Err(BadMark { mark }),
+        }
     }
 
     fn temp_alloc(&mut self, size: u64) -> Result<Place, RoomError> {
@@ -253,6 +265,18 @@ impl Store for PlainStore {
             }
             Err(error) => Err(error),
         }
+    }
+
+    fn temp_bytes(&self) -> Option<&[u8]> {
+        match self.temp {
+            Some(_) => Some(self.high[last_of(&self.high)].bytes()),
+            None => None,
+        }
+    }
+
+    fn temp_bytes_mut(&mut self) -> &mut [u8] {
+        let last = last_of(&self.high);
+        self.high[last].bytes_mut()
     }
 
     fn high_used(&self) -> u32 {
@@ -272,4 +296,6 @@ impl Store for PlainStore {
     }
 
     ghost low_writes = { λ s place bytes. refl };
+
+    ghost temp_writes = { λ s bytes. refl };
 }

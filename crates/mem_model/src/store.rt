@@ -1,12 +1,12 @@
 //! One arena with a low hunk, a high hunk, a zone and a cache.
 
-ghost use Rattle.std.specs.Prelude.{◌≡◌, ℕ, ◌≤◌, ◌^◌, List, Bool, Some, IsSome, is_some};
+ghost use Rattle.std.specs.Prelude.{◌≡◌, ℕ, ◌≤◌, ◌^◌, List, Bool, Some, None, IsSome, is_some, MatchOption};
 ghost use Rattle.std.specs.Borrow.{sem, Lends, u8 as byte, Array};
 ghost use Rattle.mem_model.specs.Memory.{Memory, low_used, high_used, room};
 ghost use Rattle.mem_model.specs.Answer.{Answers, Gives};
 ghost use Rattle.mem_model.specs.Told.{room_answer, mark_answer};
 ghost use Rattle.mem_model.specs.Operations.{low_alloc, low_free, high_alloc, high_mark, high_free, temp_alloc};
-ghost use Rattle.mem_model.specs.Hunk.{low_bytes, with_low_bytes, without_temp};
+ghost use Rattle.mem_model.specs.Hunk.{low_bytes, with_low_bytes, temp_bytes, with_temp_bytes, without_temp};
 ghost use Rattle.mem_model.specs.Laid.{Laid, IsText};
 
 use crate::answers::{BadMark, Place, RoomError};
@@ -21,6 +21,9 @@ pub trait Store: Drop {
 
     /// The store with these bytes in a low block.
     ghost low_written: { Self → ℕ → List ℕ → Self };
+
+    /// The store with these bytes in the active temporary block.
+    ghost temp_written: { Self → List ℕ → Self };
 
     /// Allocates `size` zero bytes at the end of the low hunk, with the first 8 bytes of a name, and answers their
     /// place. The block takes `size` rounded up to a multiple of 16, and a header of 16.
@@ -100,6 +103,18 @@ pub trait Store: Drop {
         ensures was_laid { Laid (state self.old) }
         ensures laid { Laid (state self.new) };
 
+    /// The bytes of the active temporary block: none exactly where none is active.
+    fn temp_bytes(&self) -> Option<&[u8]>
+        ensures { MatchOption result (temp_bytes (state self.now) ≡ None)
+            (λ bytes. temp_bytes (state self.now) ≡ Some bytes.now) };
+
+    /// The bytes of the active temporary block, to be written.
+    fn temp_bytes_mut(&mut self) -> &mut [u8]
+        requires { IsSome (temp_bytes (state self.old)) }
+        ensures* writes_back { sem 𝓛 (Lends Self.row (Array byte 0) self.entry result (temp_written self.old)) }
+        ensures shows { temp_bytes (state self.old) ≡ Some result.now }
+        ensures laid { Laid (state self.old) };
+
     /// The sizes of the high hunk's blocks, added up, that of an active temporary block included.
     fn high_used(&self) -> u32
         ensures used { result ≡ high_used (state self.now) }
@@ -123,4 +138,8 @@ pub trait Store: Drop {
     /// What is written through the bytes that a call lends becomes the bytes of that block, and all else stays.
     ghost low_writes: { (s : Self) (place : ℕ) (bytes : List ℕ) →
         state (low_written s place bytes) ≡ with_low_bytes (state s) place bytes };
+
+    /// The same of the temporary block.
+    ghost temp_writes: { (s : Self) (bytes : List ℕ) →
+        state (temp_written s bytes) ≡ with_temp_bytes (state s) bytes };
 }

@@ -7,9 +7,9 @@ use Rattle.mem_model.proofs.Calling.{high_free_cut, high_free_refused}
 use Rattle.mem_model.proofs.HighLaying.{Laid-with_fewer_high, temp-without_temp}
 use Rattle.mem_model.proofs.plain.PlainStoreStore.high_free.Goals as goal
 
-pub returns-in_default-clause-gives : goal.returns-in_default-clause-gives
-returns-in_default-clause-gives c =
-    let none : cut_from 0 c.self.inside.high.items c.args.mark ≡ None = rw c.deref.ensures.value at c.in_default.ensures in
+pub returns-in-None-clause-gives : goal.returns-in-None-clause-gives
+returns-in-None-clause-gives c =
+    let none : cut_from 0 c.self.inside.high.items c.args.mark ≡ None = rw c.deref.ensures.value at c.in-None.ensures in
     rw c.free_temp.ensures.freed (high_free_refused c.args.self.now (state_of c.self.inside) c.args.mark c.free_temp.ensures.quiet (c.self.view_is ∙ c.free_temp.ensures.freed) none)
 
 pub invariant_of-self : goal.invariant_of-self
@@ -23,10 +23,10 @@ invariant_of-self c =
       uncached = c.self.invariant.uncached;
     }
 
-pub returns-clause-gives : goal.returns-clause-gives
-returns-clause-gives c =
+pub returns-in-Some-clause-gives : goal.returns-in-Some-clause-gives
+returns-in-Some-clause-gives c =
     let cut : IsHighCut c.self.inside.high.items c.args.mark c.in-Some.kept = rw c.deref.ensures.value at c.in-Some.ensures in
     rw c.truncate.ensures.items (high_free_cut c.args.self.now (state_of c.self.inside) c.args.mark _ c.free_temp.ensures.quiet (c.self.view_is ∙ c.free_temp.ensures.freed) cut.kept)
 
-pub returns-clause-laid : goal.returns-clause-laid
-returns-clause-laid c = (invariant_of-self c).laid
+pub returns-in-Some-clause-laid : goal.returns-in-Some-clause-laid
+returns-in-Some-clause-laid c = (invariant_of-self c).laid

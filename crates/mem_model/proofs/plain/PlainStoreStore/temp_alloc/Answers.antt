@@ -22,9 +22,9 @@ invariant_of-self c =
     let used : c.self.inside.high_used ≡ high_used (without_temp c.args.self.now) = c.self.invariant.high_used ∙ ap high_used (c.self.view_is ∙ c.free_temp.ensures.freed) in
     let whole : c.div_ceil.result * 16 ≡ round_up c.args.size 16 = ap (λ n. n * 16) c.div_ceil.ensures ∙ rounded c.args.size in
     let taken : Answers (high_taken (without_temp c.args.self.now) (round_up c.args.size 16) (codes "temp")) (Ok c.in-Ok.place.0) (state_of c.self-2.inside) =
-        rw (c.free_temp.ensures.freed, whole, ← c.self-2.view_is) at c.in-Ok.ensures.gives in
+    rw (c.free_temp.ensures.freed, whole, ← c.self-2.view_is) at c.in-Ok.ensures.gives in
     let newest : c.self-2.inside.high.items ≡ (without_temp c.args.self.now).high ++ hunk_block (hunk_need (round_up c.args.size 16)) (codes "temp") ∷ [] =
-        ap (λ (m : Memory). m.high) taken.after ∙ high-high_taken (without_temp c.args.self.now) (round_up c.args.size 16) c.in-Ok.place.0 (codes "temp") taken.answer in
+    ap (λ (m : Memory). m.high) taken.after ∙ high-high_taken (without_temp c.args.self.now) (round_up c.args.size 16) c.in-Ok.place.0 (codes "temp") taken.answer in
     record {
       laid = Laid-with_temp (state_of c.self-2.inside) _ _ c.self.inside.high_used c.self-2.invariant.laid newest used;
       low_used = c.self-2.invariant.low_used;
@@ -37,7 +37,7 @@ returns-in-Ok-clause-gives c =
     let used : c.self.inside.high_used ≡ high_used (without_temp c.args.self.now) = c.self.invariant.high_used ∙ ap high_used (c.self.view_is ∙ c.free_temp.ensures.freed) in
     let whole : c.div_ceil.result * 16 ≡ round_up c.args.size 16 = ap (λ n. n * 16) c.div_ceil.ensures ∙ rounded c.args.size in
     let taken : Answers (high_taken (without_temp c.args.self.now) (round_up c.args.size 16) (codes "temp")) (Ok c.in-Ok.place.0) (state_of c.self-2.inside) =
-        rw (c.free_temp.ensures.freed, whole, ← c.self-2.view_is) at c.in-Ok.ensures.gives in
+    rw (c.free_temp.ensures.freed, whole, ← c.self-2.view_is) at c.in-Ok.ensures.gives in
     rw used (temp_alloc_taken c.args.self.now (state_of c.self-2.inside) c.args.size c.in-Ok.place.0 c.free_temp.ensures.quiet taken)
 
 pub returns-in-Ok-clause-laid : goal.returns-in-Ok-clause-laid
