@@ -272,6 +272,13 @@ temp_bytes-new m size place h =
     (temp-with_event _ _ ∙ ap (λ (answer : Result ℕ Shortage). if is_ok answer then Some (high_used (without_temp m)) else None) h)
     ∙ ap (λ n. Some (replicate n 0)) (let same : hunk_need (round_up size 16) - 16 ≡ round_up size 16 = omega arith in same)
 
+-- Its length is that of the request, rounded up.
+pub length-temp : (m : Memory) (size place : ℕ) (bytes : List ℕ) → (temp_alloc m size).answer ≡ Ok place → temp_bytes (temp_alloc m size).after ≡ Some bytes → length bytes ≡ round_up size 16
+length-temp m size place bytes h there =
+    let new : Some (replicate (round_up size 16) 0) ≡ Some bytes = sym (temp_bytes-new m size place h) ∙ there in
+    let same : replicate (round_up size 16) 0 ≡ bytes = cc in
+    sym (ap length same) ∙ length-replicate (round_up size 16) 0
+
 written_temp : (m : Memory) (temp : Option ℕ) (old bytes : List ℕ) → m.temp ≡ temp → temp_bytes_of m.high temp ≡ Some old → temp_bytes (with_temp_bytes_of m bytes temp) ≡ Some (over old bytes)
 unfolding temp_bytes
 written_temp m None old bytes e h = absurd (cc)
@@ -283,4 +290,4 @@ unfolding temp_bytes with_temp_bytes
 temp_bytes-written m old bytes h same = written_temp m m.temp old bytes refl h ∙ ap Some (over_same old bytes same)
 
 -- for callers: `#[tactic(auto, using(mem_model::proofs::Laws::store_laws))]`
-pub ruleset store_laws = (low_place_apart, low_bytes-low_alloc, low_bytes-new, length-new, low_bytes-written, low_bytes-elsewhere, low_free-low_alloc, low-low_free, low_bytes-low_free, Laid-with_low_bytes, temp_bytes-new, temp_bytes-written, Laid-with_temp_bytes)
+pub ruleset store_laws = (low_place_apart, low_bytes-low_alloc, low_bytes-new, length-new, low_bytes-written, low_bytes-elsewhere, low_free-low_alloc, low-low_free, low_bytes-low_free, Laid-with_low_bytes, temp_bytes-new, length-temp, temp_bytes-written, Laid-with_temp_bytes)

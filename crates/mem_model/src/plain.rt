@@ -157,10 +157,10 @@ impl PlainStore {
         ensures was_laid { Laid self.old }
         ensures quiet { self.old.event_room ≡ 0 }
     {
-        if let Some(mark) = self.temp {
-            let kept = self.high.len() - 1;
-            self.high.truncate(kept);
-            self.high_used = mark;
+        if let Some(older) = self.temp {
+            let newest = self.high.len() - 1;
+            self.high.truncate(newest);
+            self.high_used = older;
             self.temp = None;
         }
     }

@@ -5,10 +5,10 @@ use Rattle.mem_model.proofs.plain.PlainStore.free_temp.Goals as goal
 
 pub invariant_of-self : goal.invariant_of-self
 invariant_of-self c =
-    let mark : IsMarked c.self.inside.high.items c.in-Some.mark = marked c.self.inside.high.items c.in-Some.mark (rw c.in-Some.is at c.self.invariant.laid.temp) in
-    let whole : c.len-kept.result ≡ length c.self.inside.high.items = omega (arith, c.len-kept.ensures, c.self.inside.high.ok.0) in
+    let mark : IsMarked c.self.inside.high.items c.in-Some.older = marked c.self.inside.high.items c.in-Some.older (rw c.in-Some.is at c.self.invariant.laid.temp) in
+    let whole : c.len-newest.result ≡ length c.self.inside.high.items = omega (arith, c.len-newest.ensures, c.self.inside.high.ok.0) in
     record {
-      laid = rw c.truncate.ensures.items (Laid-with_fewer_high (state_of c.self.inside) (c.len-kept.result - 1) c.self.invariant.laid);
+      laid = rw c.truncate.ensures.items (Laid-with_fewer_high (state_of c.self.inside) (c.len-newest.result - 1) c.self.invariant.laid);
       low_used = c.self.invariant.low_used;
       high_used = rw (c.truncate.ensures.items, whole) (sym mark.older);
       uncached = c.self.invariant.uncached;
@@ -16,8 +16,8 @@ invariant_of-self c =
 
 pub returns-in-Some-clause-freed : goal.returns-in-Some-clause-freed
 returns-in-Some-clause-freed c =
-    let whole : c.len-kept.result ≡ length c.self.inside.high.items = omega (arith, c.len-kept.ensures, c.self.inside.high.ok.0) in
-    rw (c.truncate.ensures.items, whole, ← c.self.view_is) (sym (without_temp_some (state_of c.self.inside) c.in-Some.mark c.in-Some.is))
+    let whole : c.len-newest.result ≡ length c.self.inside.high.items = omega (arith, c.len-newest.ensures, c.self.inside.high.ok.0) in
+    rw (c.truncate.ensures.items, whole, ← c.self.view_is) (sym (without_temp_some (state_of c.self.inside) c.in-Some.older c.in-Some.is))
 
 pub returns-in_default-clause-freed : goal.returns-in_default-clause-freed
 returns-in_default-clause-freed c = rw (← c.self.view_is) (sym (without_temp_none (state_of c.self.inside) c.in_default.is))
