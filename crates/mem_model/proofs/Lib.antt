@@ -8,3 +8,4 @@ pub mod Pushes
 pub mod HighLaying
 pub mod HighCuts
 pub mod Newest
+pub mod Ends

@@ -1,8 +1,13 @@
 -- Where a plain store's vectors have what is looked for.
-use Rattle.std.specs.Prelude.{ℕ, ◌≡◌, ◌<◌, List, Some, length, slice_get, slice_set, take}
+use Rattle.std.specs.Prelude.{ℕ, ◌+◌, ◌≡◌, ◌<◌, List, [], ◌∷◌, Some, length, slice_get, slice_set, take}
 use Rattle.mem_model.specs.Blocks.{HunkBlock}
 use Rattle.mem_model.specs.Memory.{size_of}
 use Rattle.mem_model.specs.Hunk.{bytes_above, with_bytes_above, with_bytes, cut_above, cut_from, last_bytes, with_last_bytes}
+
+-- where each of the blocks ends, the first of which begins at `start`
+abbrev pub ends_from : ℕ → List HunkBlock → List ℕ
+ends_from start [] = []
+ends_from start (b ∷ bs) = (start + b.size) ∷ ends_from (start + b.size) bs
 
 -- The block of this payload's place is that at position i.
 pub record IsAt (blocks : List HunkBlock) (place i : ℕ) : Type 0 where

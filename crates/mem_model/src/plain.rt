@@ -11,7 +11,7 @@ ghost use Rattle.mem_model.specs.Places.{hunk_need};
 ghost use Rattle.mem_model.specs.Plain.{IsAt, IsCut, IsHighCut, IsLast};
 ghost use Rattle.mem_model.specs.Laid.{Laid, IsMultiple, IsText, IsHunkBlock, AreLowBlocks};
 
-use crate::answers::{BadMark, Place, RoomError, StoreStart};
+use crate::answers::{BadMark, BlockRow, Place, RoomError, StoreStart};
 use crate::cells::{CacheCell, HunkCell, ZoneCell, add};
 use crate::store::Store;
 use std::alloc::Global;
@@ -25,8 +25,12 @@ pub struct PlainStore {
     users: u32,
     low: Vec<HunkCell>,
     low_used: u32,
+    // Where each low block ends, so that a row is read without a walk over the others.
+    low_ends: Vec<u32>,
     high: Vec<HunkCell>,
     high_used: u32,
+    // The same, from the arena's end down.
+    high_ends: Vec<u32>,
     temp: Option<u32>,
     zone: Vec<ZoneCell>,
     rover: usize,
@@ -135,14 +139,18 @@ impl PlainStore {
         add(&mut low, HunkCell::bare(alloc, zone + 16, b"zone")?)?;
         let mut blocks = Vec::new(alloc);
         add(&mut blocks, ZoneCell::free(alloc, zone - 32))?;
+        let mut low_ends = Vec::new(alloc);
+        add(&mut low_ends, zone + 16)?;
         Ok(PlainStore {
             alloc,
             size,
             users,
             low,
             low_used: zone + 16,
+            low_ends,
             high: Vec::new(alloc),
             high_used: 0,
+            high_ends: Vec::new(alloc),
             temp: None,
             zone: blocks,
             rover: 0,
@@ -160,6 +168,7 @@ impl PlainStore {
         if let Some(older) = self.temp {
             let newest = self.high.len() - 1;
             self.high.truncate(newest);
+            self.high_ends.truncate(newest);
             self.high_used = older;
             self.temp = None;
         }
@@ -180,7 +189,9 @@ impl PlainStore {
         }
         let used = self.high_used + asked as u32;
         let cell = HunkCell::zeroed(self.alloc, asked as u32, name)?;
+        self.high_ends.reserve(1)?;
         add(&mut self.high, cell)?;
+        self.high_ends.push_reserved(used);
         self.high_used = used;
         Ok(Place(self.size - used + 16))
     }
@@ -205,9 +216,12 @@ impl Store for PlainStore {
             return Err(RoomError::NoRoom { asked: need, room });
         }
         let place = Place(self.low_used + 16);
+        let end = self.low_used + need as u32;
         let cell = HunkCell::zeroed(self.alloc, need as u32, name)?;
+        self.low_ends.reserve(1)?;
         add(&mut self.low, cell)?;
-        self.low_used += need as u32;
+        self.low_ends.push_reserved(end);
+        self.low_used = end;
         Ok(place)
     }
 
@@ -220,6 +234,7 @@ impl Store for PlainStore {
             return Err(BadMark { mark });
         };
         self.low.truncate(kept);
+        self.low_ends.truncate(kept);
         self.low_used = mark;
         Ok(())
     }
@@ -248,6 +263,7 @@ impl Store for PlainStore {
         match high_kept_by(&self.high, self.high_used, mark) {
             Some(kept) => {
                 self.high.truncate(kept);
+                self.high_ends.truncate(kept);
                 self.high_used = mark;
                 Ok(())
             }
@@ -285,6 +301,25 @@ impl Store for PlainStore {
 
     fn temp_active(&self) -> bool {
         self.temp.is_some()
+    }
+
+    fn low_row(&self, number: u32) -> Option<BlockRow> {
+        let at = number as usize;
+        if at >= self.low.len() {
+            return None;
+        }
+        let cell = &self.low[at];
+        Some(cell.row(self.low_ends[at] - cell.size()))
+    }
+
+    fn high_row(&self, number: u32) -> Option<BlockRow> {
+        let number = number as usize;
+        let count = self.high.len();
+        if number >= count {
+            return None;
+        }
+        let at = count - 1 - number;
+        Some(self.high[at].row(self.size - self.high_ends[at]))
     }
 
     fn size(&self) -> u32 {

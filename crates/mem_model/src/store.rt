@@ -1,15 +1,16 @@
 //! One arena with a low hunk, a high hunk, a zone and a cache.
 
-ghost use Rattle.std.specs.Prelude.{◌≡◌, ℕ, ◌≤◌, ◌^◌, List, Bool, Some, None, IsSome, is_some, MatchOption};
+ghost use Rattle.std.specs.Prelude.{◌≡◌, ℕ, ◌≤◌, ◌^◌, List, Bool, Some, None, IsSome, is_some, MatchOption, slice_get};
 ghost use Rattle.std.specs.Borrow.{sem, Lends, u8 as byte, Array};
 ghost use Rattle.mem_model.specs.Memory.{Memory, low_used, high_used, room};
 ghost use Rattle.mem_model.specs.Answer.{Answers, Gives};
-ghost use Rattle.mem_model.specs.Told.{room_answer, mark_answer};
+ghost use Rattle.mem_model.specs.Told.{room_answer, mark_answer, row_answer};
+ghost use Rattle.mem_model.specs.Rows.{low_rows, high_rows};
 ghost use Rattle.mem_model.specs.Operations.{low_alloc, low_free, high_alloc, high_mark, high_free, temp_alloc};
 ghost use Rattle.mem_model.specs.Hunk.{low_bytes, with_low_bytes, temp_bytes, with_temp_bytes, without_temp};
 ghost use Rattle.mem_model.specs.Laid.{Laid, IsText};
 
-use crate::answers::{BadMark, Place, RoomError};
+use crate::answers::{BadMark, BlockRow, Place, RoomError};
 
 /// A keeper of one arena. A block is known by the place of its payload. Sizes, places and marks are in bytes.
 pub trait Store: Drop {
@@ -124,6 +125,16 @@ pub trait Store: Drop {
     fn temp_active(&self) -> bool
         ensures active { result ≡ is_some (state self.now).temp }
         ensures laid { Laid (state self.now) };
+
+    /// The block of a number among the low ones, from the lowest place upwards: `None` exactly past the last.
+    ///
+    /// The place is that of the header, the user is 0, and each block is in use.
+    fn low_row(&self, number: u32) -> Option<BlockRow>
+        ensures row { row_answer result ≡ slice_get (low_rows (state self.now)) number };
+
+    /// The same among the high blocks, which go from the newest, since that has the lowest place.
+    fn high_row(&self, number: u32) -> Option<BlockRow>
+        ensures row { row_answer result ≡ slice_get (high_rows (state self.now)) number };
 
     /// The size of the arena.
     fn size(&self) -> u32

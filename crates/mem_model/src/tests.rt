@@ -2,7 +2,7 @@
 
 ghost use Rattle.std.specs.Prelude.{◌≡◌, ◌≤◌, ◌^◌, length, true, IfOk};
 
-use crate::{BadMark, Place, PlainStore, RoomError, Store, StoreStart};
+use crate::{BadMark, BlockRow, Place, PlainStore, RoomError, Store, StoreStart};
 use std::test::Fail;
 
 #[test]
@@ -142,6 +142,31 @@ fn the_high_hunk_has_one_temporary_block(rt: HostRuntime) -> Result<(), Fail> {
     ] {
         assert_eq!(rt; store.high_free(mark), answer, "at {mark}");
         assert_eq!(rt; store.high_used(), used, "at {mark}");
+    }
+    Ok(())
+}
+
+// The place, the size and the first letter of a row.
+fn brief(row: Option<BlockRow>) -> Option<(u32, u32, u8)> {
+    match row {
+        Some(row) => Some((row.place, row.size, row.name[0])),
+        None => None,
+    }
+}
+
+#[test]
+fn rows_go_upwards(rt: HostRuntime) -> Result<(), Fail> {
+    let mut store = PlainStore::create(rt.alloc(), 65_536, 49_152, 8)?;
+    store.low_alloc(100, b"first")?;
+    store.high_alloc(16, b"video")?;
+    store.temp_alloc(1)?;
+    for (number, low, high) in [
+        (0, Some((0, 49_168, b'z')), Some((65_472, 32, b't'))),
+        (1, Some((49_168, 128, b'f')), Some((65_504, 32, b'v'))),
+        (2, None, None),
+    ] {
+        assert_eq!(rt; brief(store.low_row(number)), low, "low {number}");
+        assert_eq!(rt; brief(store.high_row(number)), high, "high {number}");
     }
     Ok(())
 }

@@ -1,5 +1,6 @@
 use Rattle.std.proofs.Common.{◌≡◌, ◌-◌, length, sym, arith}
 use Rattle.mem_model.specs.PlainState.{state_of}
+use Rattle.mem_model.proofs.Ends.{ends-fewer}
 use Rattle.mem_model.proofs.HighLaying.{IsMarked, marked, Laid-with_fewer_high, without_temp_some, without_temp_none}
 use Rattle.mem_model.proofs.plain.PlainStore.free_temp.Goals as goal
 
@@ -11,6 +12,8 @@ invariant_of-self c =
       laid = rw c.truncate.ensures.items (Laid-with_fewer_high (state_of c.self.inside) (c.len-newest.result - 1) c.self.invariant.laid);
       low_used = c.self.invariant.low_used;
       high_used = rw (c.truncate.ensures.items, whole) (sym mark.older);
+      low_ends = c.self.invariant.low_ends;
+      high_ends = rw (c.truncate.ensures.items, c.truncate-in-Some.ensures.items, c.self.invariant.high_ends) (ends-fewer (c.len-newest.result - 1) c.self.inside.high.items);
       uncached = c.self.invariant.uncached;
     }
 

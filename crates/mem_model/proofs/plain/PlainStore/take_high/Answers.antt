@@ -5,6 +5,7 @@ use Rattle.mem_model.specs.PlainState.{state_of}
 use Rattle.mem_model.specs.Hunk.{hunk_block}
 use Rattle.mem_model.proofs.Calling.{high_taken_refused, high_taken_uncached}
 use Rattle.mem_model.proofs.Laying.{IsHunkBlock-hunk_block, size_of-append}
+use Rattle.mem_model.proofs.Ends.{ends-more}
 use Rattle.mem_model.proofs.HighLaying.{Laid-with_high}
 use Rattle.mem_model.proofs.plain.PlainStore.take_high.Goals as goal
 
@@ -28,6 +29,9 @@ invariant_of-self-2 c =
       low_used = c.self.invariant.low_used;
       high_used = rw (c.in_ok-add.ensures.ok, c.in_ok-cell.ensures, c.hunk_need-asked.ensures)
           (omega (arith, size_of-append c.self.inside.high.items (hunk_block (hunk_need c.args.size) c.args.name.now ∷ []), c.self.invariant.high_used));
+      low_ends = c.self.invariant.low_ends;
+      high_ends = rw (c.push_reserved.ensures.items, c.reserve.ensures.items, c.in_ok-add.ensures.ok, c.in_ok-cell.ensures, c.hunk_need-asked.ensures, c.self.invariant.high_ends)
+          (ends-more c.self.inside.high.items (hunk_block (hunk_need c.args.size) c.args.name.now) _ (omega (arith, c.self.invariant.high_used)));
       uncached = c.self.invariant.uncached;
     }
 

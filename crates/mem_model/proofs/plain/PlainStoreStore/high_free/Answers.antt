@@ -4,6 +4,7 @@ use Rattle.mem_model.specs.PlainState.{state_of}
 use Rattle.mem_model.specs.Plain.{IsHighCut}
 use Rattle.mem_model.specs.Hunk.{cut_from}
 use Rattle.mem_model.proofs.Calling.{high_free_cut, high_free_refused}
+use Rattle.mem_model.proofs.Ends.{ends-fewer}
 use Rattle.mem_model.proofs.HighLaying.{Laid-with_fewer_high, temp-without_temp}
 use Rattle.mem_model.proofs.plain.PlainStoreStore.high_free.Goals as goal
 
@@ -20,6 +21,8 @@ invariant_of-self c =
       laid = rw (c.truncate.ensures.items, none) (Laid-with_fewer_high (state_of c.self.inside) c.in-Some.kept c.self.invariant.laid);
       low_used = c.self.invariant.low_used;
       high_used = rw c.truncate.ensures.items (sym cut.ends);
+      low_ends = c.self.invariant.low_ends;
+      high_ends = rw (c.truncate.ensures.items, c.truncate-in-Some.ensures.items, c.self.invariant.high_ends) (ends-fewer c.in-Some.kept c.self.inside.high.items);
       uncached = c.self.invariant.uncached;
     }
 

@@ -29,6 +29,8 @@ invariant_of-self c =
       laid = Laid-with_temp (state_of c.self-2.inside) _ _ c.self.inside.high_used c.self-2.invariant.laid newest used;
       low_used = c.self-2.invariant.low_used;
       high_used = c.self-2.invariant.high_used;
+      low_ends = c.self-2.invariant.low_ends;
+      high_ends = c.self-2.invariant.high_ends;
       uncached = c.self-2.invariant.uncached;
     }
 

@@ -5,6 +5,7 @@ use Rattle.mem_model.specs.Blocks.{HunkBlock}
 use Rattle.mem_model.specs.Hunk.{temp_bytes}
 use Rattle.mem_model.specs.Plain.{IsLast}
 use Rattle.mem_model.specs.PlainState.{state_of}
+use Rattle.mem_model.proofs.Ends.{ends-with_last}
 use Rattle.mem_model.proofs.Newest.{mark_of, some-marked, temp_bytes-some, with_temp_bytes-some, Laid-with_last, size_of-with_last}
 use Rattle.mem_model.proofs.plain.PlainStoreStore.temp_bytes_mut.Goals as goal
 use Rattle.mem_model.proofs.plain.PlainStoreStore.temp_bytes_mut.Goals.{After-deref, After-bytes_mut}
@@ -29,6 +30,8 @@ invariant_of-self-lent c = λ w.
       laid = rw (← written) (Laid-with_last (state_of c.self.inside) w c.self.invariant.laid);
       low_used = c.self.invariant.low_used;
       high_used = rw (← written, size_of-with_last c.self.inside.high.items w) c.self.invariant.high_used;
+      low_ends = c.self.invariant.low_ends;
+      high_ends = rw (← written, ends-with_last 0 c.self.inside.high.items w) c.self.invariant.high_ends;
       uncached = c.self.invariant.uncached;
     }
 
