@@ -1,14 +1,19 @@
 -- What an operation gives, case by case, where no event is kept.
-use Rattle.std.proofs.Common.{◌≡◌, ℕ, ◌+◌, ◌<◌, ◌≤◌, List, [], ◌∷◌, ◌++◌, Some, None, Ok, Err, length, refl, sym, arith}
+use Rattle.std.proofs.Common.{◌≡◌, ℕ, ◌+◌, ◌-◌, ◌<◌, ◌≤◌, List, [], ◌∷◌, ◌++◌, Option, Some, None, Result, Ok, Err, Bool, true, false, ltb, length, refl, sym, ap, ◌∙◌, arith, if◌then◌else◌, is_ok}
+use Rattle.std.specs.Prelude.{codes}
 use Rattle.std.proofs.lemmas.Bool.{lt-ltb, le-ltb}
-use Rattle.mem_model.specs.Event.{Event}
+use Rattle.mem_model.specs.Event.{Event, Shortage, Event.HighAlloc}
 use Rattle.mem_model.specs.Blocks.{HunkBlock}
-use Rattle.mem_model.specs.Memory.{Memory, room, low_used, high_start}
-use Rattle.mem_model.specs.Answer.{Answers, with_event}
-use Rattle.mem_model.specs.Places.{hunk_need}
-use Rattle.mem_model.specs.Hunk.{hunk_block, with_low, cut_above}
-use Rattle.mem_model.specs.Operations.{low_alloc, low_free, shortage}
-use Rattle.mem_model.proofs.Laying.{pushed_up_empty}
+use Rattle.mem_model.specs.Memory.{Memory, room, low_used, high_used, high_start}
+use Rattle.mem_model.specs.Answer.{Answered, Answers, Gives, noted, with_event}
+use Rattle.mem_model.specs.Places.{hunk_need, round_up}
+use Rattle.mem_model.specs.Hunk.{hunk_block, with_low, with_high, without_temp, cut_above, cut_from}
+use Rattle.mem_model.specs.Operations.{low_alloc, low_free, high_taken, high_alloc, high_mark, high_free, temp_alloc, shortage}
+use Rattle.mem_model.specs.Told.{room_answer}
+use Rattle.mem_model.specs.declared.answers.RoomError.{RoomError}
+use Rattle.mem_model.specs.declared.answers.RoomError.TheVariants as room_error
+use Rattle.mem_model.proofs.Laying.{pushed_up_empty, pushed_down_empty}
+use Rattle.mem_model.proofs.HighLaying.{event_room-without_temp, temp-without_temp}
 
 -- with no room for events none is kept
 pub with_event_none : (m : Memory) (event : Event) → m.event_room ≡ 0 → with_event m event ≡ m
@@ -42,3 +47,100 @@ low_free_cut m mark kept quiet cut = rw cut (record { answer = refl; after = sym
 pub low_free_refused : (m : Memory) (mark : ℕ) → m.event_room ≡ 0 → cut_above m.low mark ≡ None → Answers (low_free m mark) (Err mark) m
 unfolding low_free
 low_free_refused m mark quiet cut = rw cut (record { answer = refl; after = sym (with_event_none m _ quiet) })
+
+pub high_taken_refused : (m : Memory) (size : ℕ) (name : List ℕ) → room m < hunk_need size → Answers (high_taken m size name) (Err (shortage m (hunk_need size))) m
+unfolding high_taken
+high_taken_refused m size name short = rw (lt-ltb (room m) (hunk_need size) short) (record { answer = refl; after = refl })
+
+-- over an empty cache
+pub high_taken_uncached : (m : Memory) (size : ℕ) (name : List ℕ) → m.cache.blocks ≡ [] → hunk_need size ≤ room m →
+    Answers (high_taken m size name) (Ok (high_start m - hunk_need size + 16)) (record m { high = m.high ++ hunk_block (hunk_need size) name ∷ [] })
+unfolding high_taken with_high
+high_taken_uncached m size name empty fits =
+    rw (le-ltb (room m) (hunk_need size) fits, pushed_down_empty m.cache m.size (high_start m - hunk_need size) empty) (record { answer = refl; after = refl })
+
+-- what a high allocation gives, by whether the room is too small
+high_given : Memory → ℕ → List ℕ → Bool → Answered (Result ℕ Shortage)
+high_given m size name short =
+    if short then record { answer = Err (shortage m (hunk_need size)); after = m } else record { answer = Ok (high_start m - hunk_need size + 16); after = with_high m (hunk_block (hunk_need size) name) }
+
+quiet_taken : (m : Memory) (size : ℕ) (name : List ℕ) → (high_taken m size name).after.event_room ≡ m.event_room
+unfolding high_taken high_given with_high
+quiet_taken m size name =
+    elim (ltb (room m) (hunk_need size)) as (λ short. (high_given m size name short).after.event_room ≡ m.event_room) [ true ↦ refl | false ↦ refl ]
+
+-- a taken block is the newest
+pub high-high_taken : (m : Memory) (size place : ℕ) (name : List ℕ) → (high_taken m size name).answer ≡ Ok place →
+    (high_taken m size name).after.high ≡ m.high ++ hunk_block (hunk_need size) name ∷ []
+unfolding high_taken high_given with_high
+high-high_taken m size place name =
+    elim (ltb (room m) (hunk_need size)) as (λ short. (high_given m size name short).answer ≡ Ok place → (high_given m size name short).after.high ≡ m.high ++ hunk_block (hunk_need size) name ∷ []) [
+      | true ↦ λ h. absurd (cc)
+      | false ↦ λ h. refl
+    ]
+
+-- a refusal leaves the memory
+high_taken_stays : (m : Memory) (size : ℕ) (name : List ℕ) (told : Shortage) → (high_taken m size name).answer ≡ Err told → (high_taken m size name).after ≡ m
+unfolding high_taken high_given with_high
+high_taken_stays m size name told =
+    elim (ltb (room m) (hunk_need size)) as (λ short. (high_given m size name short).answer ≡ Err told → (high_given m size name short).after ≡ m) [
+      | true ↦ λ h. refl
+      | false ↦ λ h. absurd (cc)
+    ]
+
+-- where no event is kept, what is noted gives the same
+pub noted_quiet : {A : Type 0} (given : Answered A) (event : A → Event) (frugal : Bool) (left new : Memory) (reply : Option A) →
+    given.after.event_room ≡ 0 → Gives given frugal left reply new → Gives (noted given event) frugal left reply new
+noted_quiet given event frugal left new None quiet p = p
+noted_quiet given event frugal left new (Some reply) quiet p = record { answer = p.answer; after = p.after ∙ sym (with_event_none given.after (event given.answer) quiet) }
+
+pub high_alloc_gives : (m new : Memory) (size : ℕ) (name : List ℕ) (reply : Option (Result ℕ Shortage)) → m.event_room ≡ 0 →
+    Gives (high_taken (without_temp m) size name) false (without_temp m) reply new → Gives (high_alloc m size name) false (without_temp m) reply new
+unfolding high_alloc
+high_alloc_gives m new size name reply quiet p =
+    noted_quiet (high_taken (without_temp m) size name) (HighAlloc size) false (without_temp m) new reply (quiet_taken (without_temp m) size name ∙ event_room-without_temp m ∙ quiet) p
+
+pub high_mark_gives : (m : Memory) → m.event_room ≡ 0 → Answers (high_mark m) (high_used (without_temp m)) (without_temp m)
+unfolding high_mark
+high_mark_gives m quiet = record { answer = refl; after = sym (with_event_none (without_temp m) _ (event_room-without_temp m ∙ quiet)) }
+
+pub high_free_cut : (m base : Memory) (mark : ℕ) (kept : List HunkBlock) → m.event_room ≡ 0 → base ≡ without_temp m → cut_from 0 base.high mark ≡ Some kept →
+    Answers (high_free m mark) (Ok tt) (record base { high = kept })
+unfolding high_free
+high_free_cut m base mark kept quiet is cut =
+    let there : cut_from 0 (without_temp m).high mark ≡ Some kept = ap (λ (n : Memory). cut_from 0 n.high mark) (sym is) ∙ cut in
+    rw (is, there) (record { answer = refl; after = sym (with_event_none (record (without_temp m) { high = kept }) _ (event_room-without_temp m ∙ quiet)) })
+
+pub high_free_refused : (m base : Memory) (mark : ℕ) → m.event_room ≡ 0 → base ≡ without_temp m → cut_from 0 base.high mark ≡ None → Answers (high_free m mark) (Err mark) (without_temp m)
+unfolding high_free
+high_free_refused m base mark quiet is cut =
+    let there : cut_from 0 (without_temp m).high mark ≡ None = ap (λ (n : Memory). cut_from 0 n.high mark) (sym is) ∙ cut in
+    rw there (record { answer = refl; after = sym (with_event_none (without_temp m) _ (event_room-without_temp m ∙ quiet)) })
+
+-- what a temporary allocation gives, by what the high one gave
+temp_given : Memory → Answered (Result ℕ Shortage) → Answered (Result ℕ Shortage)
+temp_given m given = record given { after = record given.after { temp = if is_ok given.answer then Some (high_used m) else None } }
+
+pub temp_alloc_taken : (m new : Memory) (size place : ℕ) → m.event_room ≡ 0 → Answers (high_taken (without_temp m) (round_up size 16) (codes "temp")) (Ok place) new →
+    Answers (temp_alloc m size) (Ok place) (record new { temp = Some (high_used (without_temp m)) })
+unfolding temp_alloc
+temp_alloc_taken m new size place quiet p = record {
+  answer = p.answer;
+  after = rw (p.answer, ← p.after) (sym (with_event_none _ _ (ap (λ (n : Memory). n.event_room) p.after ∙ quiet_taken (without_temp m) (round_up size 16) (codes "temp") ∙ event_room-without_temp m ∙ quiet)));
+}
+
+temp_alloc_refused : (m new : Memory) (size : ℕ) (told : Shortage) → m.event_room ≡ 0 → Answers (high_taken (without_temp m) (round_up size 16) (codes "temp")) (Err told) new →
+    Answers (temp_alloc m size) (Err told) new
+unfolding temp_alloc
+temp_alloc_refused m new size told quiet p = record {
+  answer = p.answer;
+  after = rw (p.answer, ← p.after) (ap (λ temp. record new { temp = temp }) none ∙ sym (with_event_none _ _ (ap (λ (n : Memory). n.event_room) p.after ∙ quiet_taken (without_temp m) (round_up size 16) (codes "temp") ∙ event_room-without_temp m ∙ quiet)));
+} where
+  none : new.temp ≡ None
+  none = ap (λ (n : Memory). n.temp) (p.after ∙ high_taken_stays (without_temp m) (round_up size 16) (codes "temp") told p.answer) ∙ temp-without_temp m
+
+-- A temporary allocation without a place gives what the high one gave.
+pub temp_alloc_without : (m new : Memory) (size : ℕ) (error : RoomError) → m.event_room ≡ 0 →
+    Gives (high_taken (without_temp m) (round_up size 16) (codes "temp")) false (without_temp m) (room_answer (Err error)) new → Gives (temp_alloc m size) false (without_temp m) (room_answer (Err error)) new
+temp_alloc_without m new size (room_error.NoRoom asked room) quiet p = temp_alloc_refused m new size _ quiet p
+temp_alloc_without m new size room_error.OutOfMemory quiet p = p

@@ -29,7 +29,7 @@ above_first (b ∷ bs) mark end n laid e l = record {
   whole : take n (b ∷ bs) ≡ b ∷ bs
   whole = take_all n (b ∷ bs) (omega arith)
 
-cut_shorter_from : (start : ℕ) (blocks : List HunkBlock) (b : HunkBlock) (mark : ℕ) → (start + size_of blocks) + b.size ≢ mark → cut_from start (blocks ++ b ∷ []) mark ≡ cut_from start blocks mark
+pub cut_shorter_from : (start : ℕ) (blocks : List HunkBlock) (b : HunkBlock) (mark : ℕ) → (start + size_of blocks) + b.size ≢ mark → cut_from start (blocks ++ b ∷ []) mark ≡ cut_from start blocks mark
 cut_shorter_from start [] b mark off = rw (ne_eqb (start + b.size) mark (λ e. off (omega arith))) refl
 cut_shorter_from start (c ∷ cs) b mark off =
     ap (λ rest. cond (eqb start mark) (Some []) (option_map (λ kept. c ∷ kept) rest)) (cut_shorter_from (start + c.size) cs b mark (λ e. off (omega arith)))
@@ -56,7 +56,7 @@ above_more {blocks} {mark} {end} {n} b j above is some at off = record {
   front : take (j + 1) blocks ≡ take j blocks ++ b ∷ []
   front = take_more blocks j b (omega (arith, above.inside)) ∙ ap (λ x. take j blocks ++ x ∷ []) (sym at)
 
-cut_whole_from : (start : ℕ) (blocks others : List HunkBlock) (mark : ℕ) → AllByRecursion IsHunkBlock blocks → start + size_of blocks ≡ mark → cut_from start (blocks ++ others) mark ≡ Some blocks
+pub cut_whole_from : (start : ℕ) (blocks others : List HunkBlock) (mark : ℕ) → AllByRecursion IsHunkBlock blocks → start + size_of blocks ≡ mark → cut_from start (blocks ++ others) mark ≡ Some blocks
 cut_whole_from start [] [] mark p e = rw (eq-eqb start mark (omega arith)) refl
 cut_whole_from start [] (b ∷ bs) mark p e = rw (eq-eqb start mark (omega arith)) refl
 cut_whole_from start (c ∷ cs) others mark p e =
@@ -75,7 +75,7 @@ above_here {blocks} {mark} {end} {n} above same laid = record {
   ends = above.sum ∙ same;
 }
 
-cut_past_from : (start : ℕ) (blocks : List HunkBlock) (mark : ℕ) → start + size_of blocks < mark → cut_from start blocks mark ≡ None
+pub cut_past_from : (start : ℕ) (blocks : List HunkBlock) (mark : ℕ) → start + size_of blocks < mark → cut_from start blocks mark ≡ None
 cut_past_from start [] mark h = rw (ne_eqb start mark (λ e. absurd (omega arith))) refl
 cut_past_from start (b ∷ bs) mark h =
     rw (ne_eqb start mark (λ e. absurd (omega arith))) (ap (option_map (λ kept. b ∷ kept)) (cut_past_from (start + b.size) bs mark (omega arith)))

@@ -1,5 +1,6 @@
 -- Laws of the operations, over the definitions alone: what callers of a store need.
-use Rattle.std.proofs.Common.{◌≡◌, ◌≢◌, ℕ, ◌+◌, ◌-◌, ◌≤◌, List, [], ◌∷◌, ◌++◌, Option, Some, None, Result, Ok, Err, Bool, true, false, ltb, eqb, cond, length, refl, sym, ap, ◌∙◌, arith, replicate, ◌⊎◌, inl, inr, if◌then◌else◌}
+use Rattle.std.proofs.Common.{◌≡◌, ◌≢◌, ℕ, ◌+◌, ◌-◌, ◌≤◌, List, [], ◌∷◌, ◌++◌, Option, Some, None, Result, Ok, Err, Bool, true, false, ltb, eqb, cond, length, refl, sym, ap, ◌∙◌, arith, replicate, ◌⊎◌, inl, inr, if◌then◌else◌, is_ok}
+use Rattle.std.specs.Prelude.{codes}
 use Rattle.std.specs.Option.{option_map}
 use Rattle.std.specs.List.{AllByRecursion}
 use Rattle.std.proofs.lemmas.Bool.Decides.{eqb_tells}
@@ -7,14 +8,16 @@ use Rattle.std.proofs.lemmas.Bool.{ne_eqb, eq-eqb}
 use Rattle.std.proofs.lemmas.List.{length-replicate}
 use Rattle.mem_model.specs.Event.{Event, Event.LowAlloc, Shortage}
 use Rattle.mem_model.specs.Blocks.{HunkBlock}
-use Rattle.mem_model.specs.Memory.{Memory, room, low_used, size_of}
+use Rattle.mem_model.specs.Memory.{Memory, room, low_used, high_used, size_of}
 use Rattle.mem_model.specs.Places.{hunk_need, round_up}
-use Rattle.mem_model.specs.Hunk.{hunk_block, with_low, with_bytes, over, bytes_from, with_bytes_from, bytes_above, with_bytes_above, cut_from, cut_above, low_bytes, with_low_bytes}
+use Rattle.mem_model.specs.Hunk.{hunk_block, with_low, with_bytes, over, bytes_from, with_bytes_from, bytes_above, with_bytes_above, cut_from, cut_above, low_bytes, with_low_bytes, with_last_bytes, temp_bytes, temp_bytes_of, with_temp_bytes, with_temp_bytes_of, without_temp}
 use Rattle.mem_model.specs.Answer.{Answered, noted, with_event}
 use Rattle.mem_model.specs.Laid.{Laid, IsHunkBlock, AreLowBlocks}
-use Rattle.mem_model.specs.Operations.{low_alloc, low_free, low_cut, shortage}
+use Rattle.mem_model.specs.Operations.{low_alloc, low_free, low_cut, temp_alloc, shortage}
 use Rattle.mem_model.proofs.Laying.{over_same, Laid-with_low_bytes}
 use Rattle.mem_model.proofs.Cuts.{cut_whole}
+use Rattle.mem_model.proofs.Calling.{high-high_taken}
+use Rattle.mem_model.proofs.Newest.{last_bytes-append, last_bytes-written, Laid-with_temp_bytes}
 
 -- an event is no other part of the memory
 low-with_event : (m : Memory) (event : Event) → (with_event m event).low ≡ m.low
@@ -250,5 +253,41 @@ unfolding low_bytes low_free
 low_bytes-low_free m mark place bytes h below =
     ap (λ low. bytes_above low place) (low-with_event (low_cut m mark (cut_above m.low mark)).after _) ∙ kept_bytes m mark place bytes (cut_above m.low mark) h below refl
 
+-- an event is no other part of the memory
+high-with_event : (m : Memory) (event : Event) → (with_event m event).high ≡ m.high
+high-with_event m event = elim (ltb (length m.events) m.event_room) as (λ t. (cond t (record m { events = m.events ++ event ∷ [] }) m).high ≡ m.high) [ true ↦ refl | false ↦ refl ]
+
+temp-with_event : (m : Memory) (event : Event) → (with_event m event).temp ≡ m.temp
+temp-with_event m event = elim (ltb (length m.events) m.event_room) as (λ t. (cond t (record m { events = m.events ++ event ∷ [] }) m).temp ≡ m.temp) [ true ↦ refl | false ↦ refl ]
+
+bytes_of_newest : (high older : List HunkBlock) (b : HunkBlock) (temp : Option ℕ) (mark : ℕ) → high ≡ older ++ b ∷ [] → temp ≡ Some mark → temp_bytes_of high temp ≡ Some b.bytes
+bytes_of_newest high older b temp mark e f = rw (e, f) (last_bytes-append older b)
+
+-- A new temporary block has zero bytes.
+pub temp_bytes-new : (m : Memory) (size place : ℕ) → (temp_alloc m size).answer ≡ Ok place → temp_bytes (temp_alloc m size).after ≡ Some (replicate (round_up size 16) 0)
+unfolding temp_alloc temp_bytes
+temp_bytes-new m size place h =
+    bytes_of_newest _ (without_temp m).high (hunk_block (hunk_need (round_up size 16)) (codes "temp")) _ (high_used (without_temp m))
+    (high-with_event _ _ ∙ high-high_taken (without_temp m) (round_up size 16) place (codes "temp") h)
+    (temp-with_event _ _ ∙ ap (λ (answer : Result ℕ Shortage). if is_ok answer then Some (high_used (without_temp m)) else None) h)
+    ∙ ap (λ n. Some (replicate n 0)) (let same : hunk_need (round_up size 16) - 16 ≡ round_up size 16 = omega arith in same)
+
+-- Its length is that of the request, rounded up.
+pub length-temp : (m : Memory) (size place : ℕ) (bytes : List ℕ) → (temp_alloc m size).answer ≡ Ok place → temp_bytes (temp_alloc m size).after ≡ Some bytes → length bytes ≡ round_up size 16
+length-temp m size place bytes h there =
+    let new : Some (replicate (round_up size 16) 0) ≡ Some bytes = sym (temp_bytes-new m size place h) ∙ there in
+    let same : replicate (round_up size 16) 0 ≡ bytes = cc in
+    sym (ap length same) ∙ length-replicate (round_up size 16) 0
+
+written_temp : (m : Memory) (temp : Option ℕ) (old bytes : List ℕ) → m.temp ≡ temp → temp_bytes_of m.high temp ≡ Some old → temp_bytes (with_temp_bytes_of m bytes temp) ≡ Some (over old bytes)
+unfolding temp_bytes
+written_temp m None old bytes e h = absurd (cc)
+written_temp m (Some mark) old bytes e h = ap (temp_bytes_of (with_last_bytes m.high bytes)) e ∙ last_bytes-written m.high old bytes h
+
+-- What is written into the temporary block is there.
+pub temp_bytes-written : (m : Memory) (old bytes : List ℕ) → temp_bytes m ≡ Some old → length bytes ≡ length old → temp_bytes (with_temp_bytes m bytes) ≡ Some bytes
+unfolding temp_bytes with_temp_bytes
+temp_bytes-written m old bytes h same = written_temp m m.temp old bytes refl h ∙ ap Some (over_same old bytes same)
+
 -- for callers: `#[tactic(auto, using(mem_model::proofs::Laws::store_laws))]`
-pub ruleset store_laws = (low_place_apart, low_bytes-low_alloc, low_bytes-new, length-new, low_bytes-written, low_bytes-elsewhere, low_free-low_alloc, low-low_free, low_bytes-low_free, Laid-with_low_bytes)
+pub ruleset store_laws = (low_place_apart, low_bytes-low_alloc, low_bytes-new, length-new, low_bytes-written, low_bytes-elsewhere, low_free-low_alloc, low-low_free, low_bytes-low_free, Laid-with_low_bytes, temp_bytes-new, length-temp, temp_bytes-written, Laid-with_temp_bytes)

@@ -7,7 +7,7 @@ use Rattle.std.specs.List.{AllByRecursion}
 use Rattle.mem_model.specs.Blocks.{HunkBlock, CacheBlock}
 use Rattle.mem_model.specs.Memory.{Memory, Cache, new_memory, size_of, low_used, high_start, room}
 use Rattle.mem_model.specs.Places.{hunk_need}
-use Rattle.mem_model.specs.Cache.{pushed_up, up_in}
+use Rattle.mem_model.specs.Cache.{pushed_up, up_in, pushed_down, down_in}
 use Rattle.mem_model.specs.Hunk.{hunk_block, with_low, over, with_bytes, with_bytes_from, with_bytes_above, with_low_bytes}
 use Rattle.mem_model.specs.Laid.{Laid, IsMultiple, IsText, IsHunkBlock, AreLowBlocks, AreBetween, first_size}
 
@@ -15,7 +15,7 @@ pub size_of-append : (xs ys : List HunkBlock) → size_of (xs ++ ys) ≡ size_of
 size_of-append [] ys = omega arith
 size_of-append (x ∷ xs) ys = omega (arith, size_of-append xs ys)
 
-all-append : {X : Type 0} (P : X → Type 0) (xs ys : List X) → AllByRecursion P xs → AllByRecursion P ys → AllByRecursion P (xs ++ ys)
+pub all-append : {X : Type 0} (P : X → Type 0) (xs ys : List X) → AllByRecursion P xs → AllByRecursion P ys → AllByRecursion P (xs ++ ys)
 all-append P [] ys p q = q
 all-append P (x ∷ xs) ys p q = (p.0, all-append P xs ys p.1 q)
 
@@ -65,7 +65,16 @@ pub pushed_up_empty : (c : Cache) (bottom top : ℕ) → c.blocks ≡ [] → pus
 unfolding pushed_up
 pushed_up_empty c bottom top h = up_in_empty _ bottom top c h
 
-between_empty : (blocks : List CacheBlock) (bottom top : ℕ) → blocks ≡ [] → bottom ≤ top → AreBetween bottom top blocks
+down_in_empty : (turns top : ℕ) (c : Cache) → c.blocks ≡ [] → down_in turns top c ≡ c
+unfolding down_in
+down_in_empty zero top c h = refl
+down_in_empty (suc turns) top c h = rw h refl
+
+pub pushed_down_empty : (c : Cache) (size top : ℕ) → c.blocks ≡ [] → pushed_down c size top ≡ c
+unfolding pushed_down
+pushed_down_empty c size top h = down_in_empty _ top c h
+
+pub between_empty : (blocks : List CacheBlock) (bottom top : ℕ) → blocks ≡ [] → bottom ≤ top → AreBetween bottom top blocks
 between_empty blocks bottom top e h = rw e h
 
 -- a memory with one low block more is laid out, over an empty cache
@@ -96,7 +105,7 @@ Laid-with_low_uncached m b laid block fits empty =
     rw (pushed_up_empty m.cache (low_used m + b.size) (high_start m) empty) at grown
 
 -- What is written over bytes has as many.
-length-over : (old bytes : List ℕ) → length (over old bytes) ≡ length old
+pub length-over : (old bytes : List ℕ) → length (over old bytes) ≡ length old
 unfolding over
 length-over old bytes = simp (length-take, length-append, length-drop) (omega arith)
 
@@ -148,12 +157,12 @@ Laid-with_low_bytes m place bytes laid = record {
 }
 
 -- the oldest blocks of a row
-size_of-take : (n : ℕ) (blocks : List HunkBlock) → size_of (take n blocks) ≤ size_of blocks
+pub size_of-take : (n : ℕ) (blocks : List HunkBlock) → size_of (take n blocks) ≤ size_of blocks
 size_of-take zero blocks = omega arith
 size_of-take (suc n) [] = omega arith
 size_of-take (suc n) (b ∷ bs) = omega (arith, size_of-take n bs)
 
-all-take : {X : Type 0} (P : X → Type 0) (n : ℕ) (xs : List X) → AllByRecursion P xs → AllByRecursion P (take n xs)
+pub all-take : {X : Type 0} (P : X → Type 0) (n : ℕ) (xs : List X) → AllByRecursion P xs → AllByRecursion P (take n xs)
 all-take P zero xs p = tt
 all-take P (suc n) [] p = tt
 all-take P (suc n) (x ∷ xs) p = (p.0, all-take P n xs p.1)

@@ -5,3 +5,7 @@ pub mod Cuts
 pub mod Calling
 pub mod Laws
 pub mod Pushes
+pub mod HighLaying
+pub mod HighCuts
+pub mod Newest
+pub mod Ends

@@ -8,6 +8,7 @@ pub mod Zone
 pub mod Hunk
 pub mod Operations
 pub mod Laid
+pub mod Rows
 pub mod Told
 pub mod Plain
 pub mod PlainState

@@ -1,8 +1,13 @@
 -- Where a plain store's vectors have what is looked for.
-use Rattle.std.specs.Prelude.{ℕ, ◌≡◌, ◌<◌, List, Some, length, slice_get, slice_set, take}
+use Rattle.std.specs.Prelude.{ℕ, ◌+◌, ◌≡◌, ◌<◌, List, [], ◌∷◌, Some, length, slice_get, slice_set, take}
 use Rattle.mem_model.specs.Blocks.{HunkBlock}
 use Rattle.mem_model.specs.Memory.{size_of}
-use Rattle.mem_model.specs.Hunk.{bytes_above, with_bytes_above, with_bytes, cut_above}
+use Rattle.mem_model.specs.Hunk.{bytes_above, with_bytes_above, with_bytes, cut_above, cut_from, last_bytes, with_last_bytes}
+
+-- where each of the blocks ends, the first of which begins at `start`
+abbrev pub ends_from : ℕ → List HunkBlock → List ℕ
+ends_from start [] = []
+ends_from start (b ∷ bs) = (start + b.size) ∷ ends_from (start + b.size) bs
 
 -- The block of this payload's place is that at position i.
 pub record IsAt (blocks : List HunkBlock) (place i : ℕ) : Type 0 where
@@ -15,3 +20,14 @@ pub record IsCut (blocks : List HunkBlock) (mark n : ℕ) : Type 0 where
   pub some : 0 < n
   pub kept : cut_above blocks mark ≡ Some (take n blocks)
   pub ends : size_of (take n blocks) ≡ mark
+
+-- The mark keeps the first n high blocks, which end there.
+pub record IsHighCut (blocks : List HunkBlock) (mark n : ℕ) : Type 0 where
+  pub kept : cut_from 0 blocks mark ≡ Some (take n blocks)
+  pub ends : size_of (take n blocks) ≡ mark
+
+-- The newest block is that at position n.
+pub record IsLast (blocks : List HunkBlock) (n : ℕ) : Type 0 where
+  pub inside : n < length blocks
+  pub reads : (b : HunkBlock) → slice_get blocks n ≡ Some b → last_bytes blocks ≡ Some b.bytes
+  pub writes : (b : HunkBlock) (bytes : List ℕ) → slice_get blocks n ≡ Some b → with_last_bytes blocks bytes ≡ slice_set blocks n (with_bytes b bytes)

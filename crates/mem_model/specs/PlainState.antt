@@ -2,6 +2,7 @@
 use Rattle.std.specs.Prelude.{◌≡◌, []}
 use Rattle.mem_model.specs.Memory.{Memory, size_of}
 use Rattle.mem_model.specs.Laid.{Laid}
+use Rattle.mem_model.specs.Plain.{ends_from}
 use Rattle.mem_model.specs.declared.plain.PlainStore.TheInside.{Inside}
 
 -- A plain store has no room for events.
@@ -18,9 +19,11 @@ state_of s = record {
   events = [];
 }
 
--- Its memory is laid out, the two sums are those of the blocks, and the cache is empty as long as no call fills it.
+-- Its memory is laid out, the two sums and all ends are those of the blocks, and the cache is empty as long as no call fills it.
 pub record IsPlain (s : Inside) : Type 0 where
   pub laid : Laid (state_of s)
   pub low_used : s.low_used ≡ size_of s.low.items
   pub high_used : s.high_used ≡ size_of s.high.items
+  pub low_ends : s.low_ends.items ≡ ends_from 0 s.low.items
+  pub high_ends : s.high_ends.items ≡ ends_from 0 s.high.items
   pub uncached : s.cache.items ≡ []

@@ -1,6 +1,9 @@
 -- What a call's result tells of the operation's answer: none where the call ran out of memory.
 use Rattle.std.specs.Prelude.{ℕ, Option, Some, None, Result, Ok, Err}
 use Rattle.mem_model.specs.Event.{Shortage}
+use Rattle.std.specs.Option.{option_map}
+use Rattle.mem_model.specs.Rows.{Row}
+use Rattle.mem_model.specs.declared.answers.BlockRow.{BlockRow}
 use Rattle.mem_model.specs.declared.answers.Place.{Place}
 use Rattle.mem_model.specs.declared.answers.BadMark.{BadMark}
 use Rattle.mem_model.specs.declared.answers.RoomError.{RoomError}
@@ -14,3 +17,9 @@ room_answer (Err room_error.OutOfMemory) = None
 abbrev pub mark_answer : Result (Unit {0}) BadMark → Result (Unit {0}) ℕ
 mark_answer (Ok done) = Ok done
 mark_answer (Err bad) = Err bad.mark
+
+abbrev pub row_of : BlockRow → Row
+row_of row = record { place = row.place; size = row.size; name = row.name; user = row.user; used = row.used }
+
+abbrev pub row_answer : Option BlockRow → Option Row
+row_answer row = option_map row_of row

@@ -20,6 +20,21 @@ pub struct BadMark {
     pub mark: u32,
 }
 
+/// What a report says of a block.
+#[derive(Clone, Copy, Debug, PartialEq, Eq)]
+pub struct BlockRow {
+    /// Where the block's header begins: an offset in the arena, in bytes.
+    pub place: u32,
+    /// In bytes, the header included.
+    pub size: u32,
+    /// Padded with zeros.
+    pub name: [u8; 16],
+    /// Whose block it is, or 0 where blocks have no users.
+    pub user: u32,
+    /// Whether the block is in use.
+    pub used: bool,
+}
+
 /// Why a store was not made.
 #[derive(Clone, Copy, Debug, PartialEq, Eq)]
 pub enum StoreStart {

@@ -1,10 +1,13 @@
 //! The blocks of a plain store, each seen as the block that it stands for.
 
-ghost use Rattle.std.specs.Prelude.{◌≡◌, ◌≤◌, ◌++◌, ◌∷◌, [], IfOk, OnOk, OnErr, false};
+ghost use Rattle.std.specs.Prelude.{◌≡◌, ◌≤◌, ◌++◌, ◌∷◌, [], IfOk, OnOk, OnErr, false, length};
 ghost use Rattle.std.specs.Borrow.{sem, Lends, u8 as byte, Array};
 ghost use Rattle.mem_model.specs.Hunk.{with_bytes, hunk_block};
-ghost use Rattle.mem_model.specs.contracts.cells.HunkCell.{the_row as hunk_row};
+ghost use Rattle.mem_model.specs.Rows.{hunk_row};
+ghost use Rattle.mem_model.specs.Told.{row_of};
+ghost use Rattle.mem_model.specs.contracts.cells.HunkCell.{the_row as cell_row};
 
+use crate::answers::BlockRow;
 use std::alloc::{AllocError, Global};
 use std::marker::Model;
 
@@ -69,6 +72,22 @@ impl HunkCell {
         self.size
     }
 
+    /// The row of this block, whose header is at a place.
+    pub fn row(&self, place: u32) -> BlockRow
+        requires { length self.now.name ≤ 16 }
+        ensures { row_of result ≡ hunk_row place self.now }
+    {
+        let mut name = [0; 16];
+        name[..self.name.len()].copy_from_slice(&self.name);
+        BlockRow {
+            place,
+            size: self.size,
+            name,
+            user: 0,
+            used: true,
+        }
+    }
+
     pub fn bytes(&self) -> &[u8]
         ensures { result.now ≡ self.now.bytes }
     {
@@ -76,7 +95,7 @@ impl HunkCell {
     }
 
     pub fn bytes_mut(&mut self) -> &mut [u8]
-        ensures* writes_back { sem 𝓛 (Lends hunk_row (Array byte 0) self.entry result (with_bytes self.old)) }
+        ensures* writes_back { sem 𝓛 (Lends cell_row (Array byte 0) self.entry result (with_bytes self.old)) }
         ensures shows { result.now ≡ self.old.bytes }
     {
         self.bytes.as_mut_slice()

@@ -10,6 +10,6 @@ mod store;
 #[cfg(test)]
 mod tests;
 
-pub use answers::{BadMark, Place, RoomError, StoreStart};
+pub use answers::{BadMark, BlockRow, Place, RoomError, StoreStart};
 pub use plain::PlainStore;
 pub use store::Store;

@@ -1,13 +1,17 @@
 //! A store over vectors.
 
-ghost use Rattle.std.specs.Prelude.{◌≡◌, ◌<◌, ◌≤◌, ◌^◌, ◌↔◌, IfOk, Err, IsSome, MatchOption, None};
+ghost use Rattle.std.specs.Prelude.{◌≡◌, ◌<◌, ◌≤◌, ◌^◌, ◌↔◌, IfOk, Err, IsSome, MatchOption, None, false};
+ghost use Rattle.std.specs.List.{AllByRecursion};
 ghost use Rattle.mem_model.specs.Memory.{new_memory, size_of};
-ghost use Rattle.mem_model.specs.Hunk.{bytes_above, cut_above};
+ghost use Rattle.mem_model.specs.Hunk.{bytes_above, cut_above, cut_from, last_bytes, without_temp};
+ghost use Rattle.mem_model.specs.Operations.{high_taken};
+ghost use Rattle.mem_model.specs.Answer.{Gives};
+ghost use Rattle.mem_model.specs.Told.{room_answer};
 ghost use Rattle.mem_model.specs.Places.{hunk_need};
-ghost use Rattle.mem_model.specs.Plain.{IsAt, IsCut};
-ghost use Rattle.mem_model.specs.Laid.{IsMultiple, AreLowBlocks};
+ghost use Rattle.mem_model.specs.Plain.{IsAt, IsCut, IsHighCut, IsLast};
+ghost use Rattle.mem_model.specs.Laid.{Laid, IsMultiple, IsText, IsHunkBlock, AreLowBlocks};
 
-use crate::answers::{BadMark, Place, RoomError, StoreStart};
+use crate::answers::{BadMark, BlockRow, Place, RoomError, StoreStart};
 use crate::cells::{CacheCell, HunkCell, ZoneCell, add};
 use crate::store::Store;
 use std::alloc::Global;
@@ -21,8 +25,12 @@ pub struct PlainStore {
     users: u32,
     low: Vec<HunkCell>,
     low_used: u32,
+    // Where each low block ends, so that a row is read without a walk over the others.
+    low_ends: Vec<u32>,
     high: Vec<HunkCell>,
     high_used: u32,
+    // The same, from the arena's end down.
+    high_ends: Vec<u32>,
     temp: Option<u32>,
     zone: Vec<ZoneCell>,
     rover: usize,
@@ -86,6 +94,32 @@ fn kept_by(cells: &[HunkCell], used: u32, mark: u32) -> Option<usize>
     if end == mark { Some(kept) } else { None }
 }
 
+// How many high blocks a mark keeps. It looks from the newest too.
+fn high_kept_by(cells: &[HunkCell], used: u32, mark: u32) -> Option<usize>
+    requires used { used ≡ size_of cells.now }
+    requires laid { AllByRecursion IsHunkBlock cells.now }
+    ensures { MatchOption result (cut_from 0 cells.now mark ≡ None) (λ n. IsHighCut cells.now mark n) }
+{
+    let mut end = used;
+    let mut kept = cells.len();
+    while mark < end {
+        kept -= 1;
+        end -= cells[kept].size();
+    }
+    if end != mark {
+        return None;
+    }
+    Some(kept)
+}
+
+// The position of the newest block.
+fn last_of(cells: &[HunkCell]) -> usize
+    requires { IsSome (last_bytes cells.now) }
+    ensures { IsLast cells.now result }
+{
+    cells.len() - 1
+}
+
 impl PlainStore {
     /// A store of `size` bytes with a zone of `zone` bytes, all free, and an empty cache for this many users.
     ///
@@ -105,14 +139,18 @@ impl PlainStore {
         add(&mut low, HunkCell::bare(alloc, zone + 16, b"zone")?)?;
         let mut blocks = Vec::new(alloc);
         add(&mut blocks, ZoneCell::free(alloc, zone - 32))?;
+        let mut low_ends = Vec::new(alloc);
+        add(&mut low_ends, zone + 16)?;
         Ok(PlainStore {
             alloc,
             size,
             users,
             low,
             low_used: zone + 16,
+            low_ends,
             high: Vec::new(alloc),
             high_used: 0,
+            high_ends: Vec::new(alloc),
             temp: None,
             zone: blocks,
             rover: 0,
@@ -120,17 +158,56 @@ impl PlainStore {
             recency: Vec::new(alloc),
         })
     }
+
+    // Frees the temporary block, where one is active.
+    fn free_temp(&mut self)
+        ensures freed { self.new ≡ without_temp self.old }
+        ensures was_laid { Laid self.old }
+        ensures quiet { self.old.event_room ≡ 0 }
+    {
+        if let Some(older) = self.temp {
+            let newest = self.high.len() - 1;
+            self.high.truncate(newest);
+            self.high_ends.truncate(newest);
+            self.high_used = older;
+            self.temp = None;
+        }
+    }
+
+    // Adds a high block, where no temporary block is active.
+    fn take_high(&mut self, size: u64, name: &[u8]) -> Result<Place, RoomError>
+        requires size { size ≤ 2 ^ 62 }
+        requires name { IsText name.now }
+        requires no_temp { self.old.temp ≡ None }
+        ensures gives { Gives (high_taken self.old size name.now) false self.old (room_answer result) self.new }
+        ensures laid { Laid self.new }
+    {
+        let asked = hunk_need(size);
+        let room = u64::from(self.room());
+        if asked > room {
+            return Err(RoomError::NoRoom { asked, room });
+        }
+        let used = self.high_used + asked as u32;
+        let cell = HunkCell::zeroed(self.alloc, asked as u32, name)?;
+        self.high_ends.reserve(1)?;
+        add(&mut self.high, cell)?;
+        self.high_ends.push_reserved(used);
+        self.high_used = used;
+        Ok(Place(self.size - used + 16))
+    }
 }
 
 impl Store for PlainStore {
     ghost use Rattle.std.specs.Prelude.{false, refl};
-    ghost use Rattle.mem_model.specs.Hunk.{with_low_bytes};
+    ghost use Rattle.mem_model.specs.Hunk.{with_low_bytes, with_temp_bytes};
 
     ghost state = { λ m. m };
 
     ghost frugal = { false };
 
     ghost low_written = { with_low_bytes };
+
+    ghost temp_written = { with_temp_bytes };
 
     fn low_alloc(&mut self, size: u64, name: &[u8]) -> Result<Place, RoomError> {
         let need = hunk_need(size);
@@ -139,9 +216,12 @@ impl Store for PlainStore {
             return Err(RoomError::NoRoom { asked: need, room });
         }
         let place = Place(self.low_used + 16);
+        let end = self.low_used + need as u32;
         let cell = HunkCell::zeroed(self.alloc, need as u32, name)?;
+        self.low_ends.reserve(1)?;
         add(&mut self.low, cell)?;
-        self.low_used += need as u32;
+        self.low_ends.push_reserved(end);
+        self.low_used = end;
         Ok(place)
     }
 
@@ -154,6 +234,7 @@ impl Store for PlainStore {
             return Err(BadMark { mark });
         };
         self.low.truncate(kept);
+        self.low_ends.truncate(kept);
         self.low_used = mark;
         Ok(())
     }
@@ -167,6 +248,80 @@ impl Store for PlainStore {
         self.low[at].bytes_mut()
     }
 
+    fn high_alloc(&mut self, size: u64, name: &[u8]) -> Result<Place, RoomError> {
+        self.free_temp();
+        self.take_high(size, name)
+    }
+
+    fn high_mark(&mut self) -> u32 {
+        self.free_temp();
+        self.high_used
+    }
+
+    fn high_free(&mut self, mark: u32) -> Result<(), BadMark> {
+        self.free_temp();
+        match high_kept_by(&self.high, self.high_used, mark) {
+            Some(kept) => {
+                self.high.truncate(kept);
+                self.high_ends.truncate(kept);
+                self.high_used = mark;
+                Ok(())
+            }
+            None => Err(BadMark { mark }),
+        }
+    }
+
+    fn temp_alloc(&mut self, size: u64) -> Result<Place, RoomError> {
+        self.free_temp();
+        let mark = self.high_used;
+        match self.take_high(size.div_ceil(16) * 16, b"temp") {
+            Ok(place) => {
+                self.temp = Some(mark);
+                Ok(place)
+            }
+            Err(error) => Err(error),
+        }
+    }
+
+    fn temp_bytes(&self) -> Option<&[u8]> {
+        match self.temp {
+            Some(_) => Some(self.high[last_of(&self.high)].bytes()),
+            None => None,
+        }
+    }
+
+    fn temp_bytes_mut(&mut self) -> &mut [u8] {
+        let last = last_of(&self.high);
+        self.high[last].bytes_mut()
+    }
+
+    fn high_used(&self) -> u32 {
+        self.high_used
+    }
+
+    fn temp_active(&self) -> bool {
+        self.temp.is_some()
+    }
+
+    fn low_row(&self, number: u32) -> Option<BlockRow> {
+        let at = number as usize;
+        if at >= self.low.len() {
+            return None;
+        }
+        let cell = &self.low[at];
+        Some(cell.row(self.low_ends[at] - cell.size()))
+    }
+
+    fn high_row(&self, number: u32) -> Option<BlockRow> {
+        let number = number as usize;
+        let count = self.high.len();
+        if number >= count {
+            return None;
+        }
+        let at = count - 1 - number;
+        Some(self.high[at].row(self.size - self.high_ends[at]))
+    }
+
     fn size(&self) -> u32 {
         self.size
     }
@@ -176,4 +331,6 @@ impl Store for PlainStore {
     }
 
     ghost low_writes = { λ s place bytes. refl };
+
+    ghost temp_writes = { λ s bytes. refl };
 }

@@ -1,15 +1,16 @@
 //! One arena with a low hunk, a high hunk, a zone and a cache.
 
-ghost use Rattle.std.specs.Prelude.{◌≡◌, ℕ, ◌≤◌, ◌^◌, List, Bool, Some, IsSome};
+ghost use Rattle.std.specs.Prelude.{◌≡◌, ℕ, ◌≤◌, ◌^◌, List, Bool, Some, None, IsSome, is_some, MatchOption, slice_get};
 ghost use Rattle.std.specs.Borrow.{sem, Lends, u8 as byte, Array};
-ghost use Rattle.mem_model.specs.Memory.{Memory, low_used, room};
+ghost use Rattle.mem_model.specs.Memory.{Memory, low_used, high_used, room};
 ghost use Rattle.mem_model.specs.Answer.{Answers, Gives};
-ghost use Rattle.mem_model.specs.Told.{room_answer, mark_answer};
-ghost use Rattle.mem_model.specs.Operations.{low_alloc, low_free};
-ghost use Rattle.mem_model.specs.Hunk.{low_bytes, with_low_bytes};
+ghost use Rattle.mem_model.specs.Told.{room_answer, mark_answer, row_answer};
+ghost use Rattle.mem_model.specs.Rows.{low_rows, high_rows};
+ghost use Rattle.mem_model.specs.Operations.{low_alloc, low_free, high_alloc, high_mark, high_free, temp_alloc};
+ghost use Rattle.mem_model.specs.Hunk.{low_bytes, with_low_bytes, temp_bytes, with_temp_bytes, without_temp};
 ghost use Rattle.mem_model.specs.Laid.{Laid, IsText};
 
-use crate::answers::{BadMark, Place, RoomError};
+use crate::answers::{BadMark, BlockRow, Place, RoomError};
 
 /// A keeper of one arena. A block is known by the place of its payload. Sizes, places and marks are in bytes.
 pub trait Store: Drop {
@@ -21,6 +22,9 @@ pub trait Store: Drop {
 
     /// The store with these bytes in a low block.
     ghost low_written: { Self → ℕ → List ℕ → Self };
+
+    /// The store with these bytes in the active temporary block.
+    ghost temp_written: { Self → List ℕ → Self };
 
     /// Allocates `size` zero bytes at the end of the low hunk, with the first 8 bytes of a name, and answers their
     /// place. The block takes `size` rounded up to a multiple of 16, and a header of 16.
@@ -61,6 +65,77 @@ pub trait Store: Drop {
         ensures shows { low_bytes (state self.old) place.0 ≡ Some result.now }
         ensures laid { Laid (state self.old) };
 
+    /// Allocates `size` zero bytes at the low end of the high hunk, with the first 8 bytes of a name, and answers their
+    /// place. The block takes `size` rounded up to a multiple of 16, and a header of 16. An active temporary block is
+    /// freed first.
+    ///
+    /// `NoRoom` tells that need and the room where it is less, the temporary block not counted; it adds its event where
+    /// events are kept. It and want of memory change nothing else.
+    fn high_alloc(&mut self, size: u64, name: &[u8]) -> Result<Place, RoomError>
+        requires size { size ≤ 2 ^ 62 }
+        requires name { IsText name.now }
+        ensures gives { Gives (high_alloc (state self.old) size name.now) frugal (without_temp (state self.old))
+            (room_answer result) (state self.new) }
+        ensures was_laid { Laid (state self.old) }
+        ensures laid { Laid (state self.new) };
+
+    /// Frees an active temporary block, and answers the sizes of the high hunk's blocks, added up.
+    fn high_mark(&mut self) -> u32
+        ensures gives { Answers (high_mark (state self.old)) result (state self.new) }
+        ensures laid { Laid (state self.new) };
+
+    /// Frees an active temporary block, and the blocks of the high hunk that came after a mark, which is 0 or where a
+    /// block ended, as `high_mark` told once.
+    ///
+    /// Any other mark is a `BadMark`, and frees the temporary block alone.
+    fn high_free(&mut self, mark: u32) -> Result<(), BadMark>
+        ensures gives { Answers (high_free (state self.old) mark) (mark_answer result) (state self.new) }
+        ensures laid { Laid (state self.new) };
+
+    /// Allocates the temporary block in the high hunk, of `size` zero bytes, and answers their place. It lasts until
+    /// the next call that allocates high, marks or frees the high hunk, or allocates a temporary block again, which
+    /// first frees it.
+    ///
+    /// `NoRoom` is as in `high_alloc`. After it, and after want of memory, no temporary block is active.
+    fn temp_alloc(&mut self, size: u64) -> Result<Place, RoomError>
+        requires { size ≤ 2 ^ 62 }
+        ensures gives { Gives (temp_alloc (state self.old) size) frugal (without_temp (state self.old))
+            (room_answer result) (state self.new) }
+        ensures was_laid { Laid (state self.old) }
+        ensures laid { Laid (state self.new) };
+
+    /// The bytes of the active temporary block: none exactly where none is active.
+    fn temp_bytes(&self) -> Option<&[u8]>
+        ensures { MatchOption result (temp_bytes (state self.now) ≡ None)
+            (λ bytes. temp_bytes (state self.now) ≡ Some bytes.now) };
+
+    /// The bytes of the active temporary block, to be written.
+    fn temp_bytes_mut(&mut self) -> &mut [u8]
+        requires { IsSome (temp_bytes (state self.old)) }
+        ensures* writes_back { sem 𝓛 (Lends Self.row (Array byte 0) self.entry result (temp_written self.old)) }
+        ensures shows { temp_bytes (state self.old) ≡ Some result.now }
+        ensures laid { Laid (state self.old) };
+
+    /// The sizes of the high hunk's blocks, added up, that of an active temporary block included.
+    fn high_used(&self) -> u32
+        ensures used { result ≡ high_used (state self.now) }
+        ensures laid { Laid (state self.now) };
+
+    /// Whether a temporary block is active.
+    fn temp_active(&self) -> bool
+        ensures active { result ≡ is_some (state self.now).temp }
+        ensures laid { Laid (state self.now) };
+
+    /// The block of a number among the low ones, from the lowest place upwards: `None` exactly past the last.
+    ///
+    /// The place is that of the header, the user is 0, and each block is in use.
+    fn low_row(&self, number: u32) -> Option<BlockRow>
+        ensures row { row_answer result ≡ slice_get (low_rows (state self.now)) number };
+
+    /// The same among the high blocks, which go from the newest, since that has the lowest place.
+    fn high_row(&self, number: u32) -> Option<BlockRow>
+        ensures row { row_answer result ≡ slice_get (high_rows (state self.now)) number };
+
     /// The size of the arena.
     fn size(&self) -> u32
         ensures size { result ≡ (state self.now).size }
@@ -74,4 +149,8 @@ pub trait Store: Drop {
     /// What is written through the bytes that a call lends becomes the bytes of that block, and all else stays.
     ghost low_writes: { (s : Self) (place : ℕ) (bytes : List ℕ) →
         state (low_written s place bytes) ≡ with_low_bytes (state s) place bytes };
+
+    /// The same of the temporary block.
+    ghost temp_writes: { (s : Self) (bytes : List ℕ) →
+        state (temp_written s bytes) ≡ with_temp_bytes (state s) bytes };
 }

@@ -2,7 +2,7 @@
 
 ghost use Rattle.std.specs.Prelude.{◌≡◌, ◌≤◌, ◌^◌, length, true, IfOk};
 
-use crate::{BadMark, Place, PlainStore, RoomError, Store, StoreStart};
+use crate::{BadMark, BlockRow, Place, PlainStore, RoomError, Store, StoreStart};
 use std::test::Fail;
 
 #[test]
@@ -93,5 +93,80 @@ fn blocks_keep_what_is_written(rt: HostRuntime) -> Result<(), Fail> {
     let next = store.low_alloc(20, b"next")?;
     assert_eq!(rt; next, Place(49_216));
     assert_eq!(rt; store.low_bytes(next), [0; 32].as_slice());
+    Ok(())
+}
+
+// Puts a text into a new temporary block of any store, and reads it back.
+#[tactic(auto, using(crate::proofs::Laws::store_laws))]
+fn reads_back_high<S: Store>(store: &mut S, text: &[u8]) -> Result<bool, RoomError>
+    requires small { length text.now ≤ 2 ^ 20 }
+{
+    store.temp_alloc(text.len() as u64)?;
+    put(store.temp_bytes_mut(), text);
+    match store.temp_bytes() {
+        Some(bytes) => Ok(bytes.starts_with(text)),
+        None => Ok(false),
+    }
+}
+
+#[test]
+fn the_high_hunk_has_one_temporary_block(rt: HostRuntime) -> Result<(), Fail> {
+    let mut store = PlainStore::create(rt.alloc(), 65_536, 49_152, 8)?;
+    assert!(rt; reads_back_high(&mut store, b"seventeen letters")?);
+    assert_eq!(rt;
+        (store.temp_alloc(16_000), store.temp_active()),
+        (Ok(Place(49_536)), true)
+    );
+    assert_eq!(rt; (store.high_used(), store.room()), (16_016, 352));
+    let large = store.high_alloc(16_000, b"video");
+    assert_eq!(rt; (large, store.temp_active()), (Ok(Place(49_536)), false));
+    assert!(rt; store.temp_bytes().is_none());
+    let short = Err(RoomError::NoRoom {
+        asked: 416,
+        room: 352,
+    });
+    assert_eq!(rt; store.high_alloc(400, b"more"), short);
+    assert_eq!(rt; store.temp_alloc(320), Ok(Place(49_200)));
+    assert_eq!(rt;
+        (store.temp_alloc(400), store.temp_active()),
+        (short, false)
+    );
+    assert_eq!(rt; store.temp_alloc(16), Ok(Place(49_504)));
+    assert_eq!(rt; (store.high_mark(), store.temp_active()), (16_016, false));
+    for (mark, answer, used) in [
+        (8, Err(BadMark { mark: 8 }), 16_016),
+        (16_032, Err(BadMark { mark: 16_032 }), 16_016),
+        (16_016, Ok(()), 16_016),
+        (0, Ok(()), 0),
+        (16_016, Err(BadMark { mark: 16_016 }), 0),
+    ] {
+        assert_eq!(rt; store.high_free(mark), answer, "at {mark}");
+        assert_eq!(rt; store.high_used(), used, "at {mark}");
+    }
+    Ok(())
+}
+
+// The place, the size and the first letter of a row.
+fn brief(row: Option<BlockRow>) -> Option<(u32, u32, u8)> {
+    match row {
+        Some(row) => Some((row.place, row.size, row.name[0])),
+        None => None,
+    }
+}
+
+#[test]
+fn rows_go_upwards(rt: HostRuntime) -> Result<(), Fail> {
+    let mut store = PlainStore::create(rt.alloc(), 65_536, 49_152, 8)?;
+    store.low_alloc(100, b"first")?;
+    store.high_alloc(16, b"video")?;
+    store.temp_alloc(1)?;
+    for (number, low, high) in [
+        (0, Some((0, 49_168, b'z')), Some((65_472, 32, b't'))),
+        (1, Some((49_168, 128, b'f')), Some((65_504, 32, b'v'))),
+        (2, None, None),
+    ] {
+        assert_eq!(rt; brief(store.low_row(number)), low, "low {number}");
+        assert_eq!(rt; brief(store.high_row(number)), high, "high {number}");
+    }
     Ok(())
 }

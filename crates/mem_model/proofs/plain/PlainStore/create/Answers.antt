@@ -1,4 +1,4 @@
-use Rattle.std.proofs.Common.{arith, refl}
+use Rattle.std.proofs.Common.{◌≡◌, ◌+◌, ◌∷◌, [], ap, arith, refl}
 use Rattle.mem_model.proofs.Laying.{Laid-new_memory}
 use Rattle.mem_model.proofs.plain.PlainStore.create.Goals as goal
 
@@ -7,9 +7,11 @@ invariant_of-result c =
     let low = c.in_ok-add.ensures.ok in
     let zone = c.in_ok-add-2.ensures.ok in
     record {
-      laid = rw (low, zone, c.new-low.ensures.items, c.in_ok-bare.ensures, c.new-blocks.ensures.items, c.free.ensures, c.new.ensures.items, c.new-2.ensures.items, c.new-3.ensures.items)
+      laid = rw (low, zone, c.new-low.ensures.items, c.in_ok-bare.ensures, c.new-blocks.ensures.items, c.free.ensures, c.new.ensures.items, c.new-3.ensures.items, c.new-4.ensures.items)
           (Laid-new_memory c.args.size c.args.zone c.args.users c.requires.zone.0 c.requires.zone.1 c.requires.size.1 (omega arith));
       low_used = rw (low, c.new-low.ensures.items, c.in_ok-bare.ensures) (omega arith);
       high_used = rw c.new.ensures.items refl;
-      uncached = c.new-2.ensures.items;
+      low_ends = rw (low, c.in_ok-add-3.ensures.ok, c.new-low.ensures.items, c.new-low_ends.ensures.items, c.in_ok-bare.ensures) (let e : c.args.zone + 16 ≡ 0 + (c.args.zone + 16) = omega arith in ap (λ n. n ∷ []) e);
+      high_ends = rw (c.new.ensures.items, c.new-2.ensures.items) refl;
+      uncached = c.new-3.ensures.items;
     }

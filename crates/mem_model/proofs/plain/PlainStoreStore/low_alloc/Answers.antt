@@ -4,6 +4,7 @@ use Rattle.mem_model.specs.Places.{hunk_need}
 use Rattle.mem_model.specs.PlainState.{state_of}
 use Rattle.mem_model.specs.Hunk.{hunk_block}
 use Rattle.mem_model.proofs.Calling.{low_alloc_refused, low_alloc_uncached}
+use Rattle.mem_model.proofs.Ends.{ends-more}
 use Rattle.mem_model.proofs.Laying.{Laid-with_low_uncached, IsHunkBlock-hunk_block, size_of-append}
 use Rattle.mem_model.proofs.plain.PlainStoreStore.low_alloc.Goals as goal
 
@@ -26,6 +27,9 @@ invariant_of-self-2 c = record {
   low_used = rw (c.in_ok-add.ensures.ok, c.in_ok-cell.ensures, c.hunk_need-need.ensures)
       (omega (arith, size_of-append c.self.inside.low.items (hunk_block (hunk_need c.args.size) c.args.name.now ∷ []), c.self.invariant.low_used));
   high_used = c.self.invariant.high_used;
+  low_ends = rw (c.push_reserved.ensures.items, c.reserve.ensures.items, c.in_ok-add.ensures.ok, c.in_ok-cell.ensures, c.hunk_need-need.ensures, c.self.invariant.low_ends)
+      (ends-more c.self.inside.low.items (hunk_block (hunk_need c.args.size) c.args.name.now) _ (omega (arith, c.self.invariant.low_used)));
+  high_ends = c.self.invariant.high_ends;
   uncached = c.self.invariant.uncached;
 }
 

@@ -5,6 +5,7 @@ use Rattle.mem_model.specs.Blocks.{HunkBlock}
 use Rattle.mem_model.specs.Plain.{IsAt}
 use Rattle.mem_model.specs.PlainState.{state_of}
 use Rattle.mem_model.specs.Hunk.{low_bytes, with_low_bytes}
+use Rattle.mem_model.proofs.Ends.{ends-with_bytes_above}
 use Rattle.mem_model.proofs.Laying.{Laid-with_low_bytes, size_of-with_bytes_above}
 use Rattle.mem_model.proofs.plain.PlainStoreStore.low_bytes_mut.Goals as goal
 use Rattle.mem_model.proofs.plain.PlainStoreStore.low_bytes_mut.Goals.{After-bytes_mut}
@@ -31,6 +32,8 @@ invariant_of-self-lent c = λ w.
       laid = rw (← written) (Laid-with_low_bytes (state_of c.self.inside) c.args.place.0 w c.self.invariant.laid);
       low_used = rw (← written, size_of-with_bytes_above c.self.inside.low.items c.args.place.0 w) c.self.invariant.low_used;
       high_used = c.self.invariant.high_used;
+      low_ends = rw (← written, ends-with_bytes_above c.self.inside.low.items c.args.place.0 w) c.self.invariant.low_ends;
+      high_ends = c.self.invariant.high_ends;
       uncached = c.self.invariant.uncached;
     }
 

@@ -3,6 +3,7 @@ use Rattle.mem_model.specs.PlainState.{state_of}
 use Rattle.mem_model.specs.Plain.{IsCut}
 use Rattle.mem_model.specs.Hunk.{cut_above}
 use Rattle.mem_model.proofs.Calling.{low_free_cut, low_free_refused}
+use Rattle.mem_model.proofs.Ends.{ends-fewer}
 use Rattle.mem_model.proofs.Laying.{Laid-with_fewer}
 use Rattle.mem_model.proofs.plain.PlainStoreStore.low_free.Goals as goal
 
@@ -18,6 +19,8 @@ invariant_of-self c =
       laid = rw c.truncate.ensures.items (Laid-with_fewer (state_of c.self.inside) c.in-Some.kept cut.some c.self.invariant.laid);
       low_used = rw c.truncate.ensures.items (sym cut.ends);
       high_used = c.self.invariant.high_used;
+      low_ends = rw (c.truncate.ensures.items, c.truncate-2.ensures.items, c.self.invariant.low_ends) (ends-fewer c.in-Some.kept c.self.inside.low.items);
+      high_ends = c.self.invariant.high_ends;
       uncached = c.self.invariant.uncached;
     }
 
