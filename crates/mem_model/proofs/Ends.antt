@@ -1,6 +1,7 @@
 -- Where the blocks of a hunk end, and the rows that are read by it.
 use Rattle.std.proofs.Common.{◌≡◌, ℕ, suc, zero, ◌+◌, ◌-◌, ◌<◌, ◌≤◌, List, [], ◌∷◌, ◌++◌, Some, None, length, take, eqb, cond, true, false, refl, ap, ◌∙◌, arith, length-append}
 use Rattle.std.specs.Prelude.{slice_get}
+use Rattle.std.proofs.lemmas.Option.{slice_get_past}
 use Rattle.mem_model.specs.Blocks.{HunkBlock}
 use Rattle.mem_model.specs.Memory.{size_of}
 use Rattle.mem_model.specs.Hunk.{with_bytes, with_bytes_from, with_bytes_above, with_last_bytes}
@@ -86,17 +87,12 @@ get_behind [] x (suc j) h = absurd (omega (arith, h))
 get_behind (y ∷ ys) x zero h = absurd (omega (arith, h))
 get_behind (y ∷ ys) x (suc j) h = get_behind ys x j (omega (arith, h))
 
-get_past : {X : Type 0} (xs : List X) (j : ℕ) → length xs ≤ j → slice_get xs j ≡ None
-get_past [] j h = refl
-get_past (x ∷ xs) zero h = absurd (omega (arith, h))
-get_past (x ∷ xs) (suc j) h = get_past xs j (omega (arith, h))
-
 length-rows_down : (end : ℕ) (blocks : List HunkBlock) → length (rows_down end blocks) ≡ length blocks
 length-rows_down end [] = refl
 length-rows_down end (b ∷ bs) = omega (arith, length-append (rows_down (end - b.size) bs) (hunk_row (end - b.size) b ∷ []), length-rows_down (end - b.size) bs)
 
 pub no_row_down : (end : ℕ) (blocks : List HunkBlock) (i : ℕ) → length blocks ≤ i → slice_get (rows_down end blocks) i ≡ None
-no_row_down end blocks i h = get_past (rows_down end blocks) i (omega (arith, length-rows_down end blocks))
+no_row_down end blocks i h = slice_get_past (rows_down end blocks) i (omega (arith, length-rows_down end blocks))
 
 row_to : (top start : ℕ) (blocks : List HunkBlock) (i j : ℕ) (b : HunkBlock) (end : ℕ) → size_of blocks ≤ top → slice_get blocks i ≡ Some b → slice_get (ends_from start blocks) i ≡ Some end → (j + i) + 1 ≡ length blocks →
     slice_get (rows_down top blocks) j ≡ Some (hunk_row ((top + start) - end) b)
