@@ -275,26 +275,16 @@ fn a_long_script_is_refused(rt: HostRuntime) -> Result<(), Fail> {
         ("", b'\n', 1_048_576, "", 0, "", "", 0),
         ("", b'\n', 1_048_577, "", 8, long, "", 0),
         ("echo a\n", b'x', 1_048_569, "", 0, "", "a \noverflow\n", 0),
-        ("echo a\n", b'x', 1_048_569, "\necho b", 8, long, "a \n", 6),
+        // The limit stands behind `echo c`, so this is no whole line, and no frame of the end runs.
         (
-            "wait;echo a\n",
+            "echo a\n",
             b'x',
-            1_048_563,
-            "\n\n",
+            1_048_550,
+            "\nwait;echo b\necho c\nx",
             8,
             long,
-            "overflow\na \n",
-            0,
-        ),
-        (
-            "",
-            b'x',
-            1_048_563,
-            "\nwait;echo a\nb",
-            8,
-            long,
-            "overflow\n",
-            0,
+            "a \noverflow\n",
+            1,
         ),
         (
             "",
@@ -306,6 +296,8 @@ fn a_long_script_is_refused(rt: HostRuntime) -> Result<(), Fail> {
             "overflow\n",
             6,
         ),
+        // A read asks for 4096 bytes at most.
+        ("quit\n", b'x', 5000, "", 0, "", "", 909),
     ] {
         let text = text(alloc, head, byte, count, tail)?;
         let mut script = source(alloc, &text)?;
