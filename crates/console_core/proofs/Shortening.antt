@@ -5,8 +5,9 @@ use Rattle.std.specs.Prelude.{◌⊎◌}
 use Rattle.std.proofs.lemmas.Bool.{lt-leb}
 use Rattle.std.proofs.lemmas.Bool.Decides.{eqb_tells}
 use Rattle.outside_io.specs.Files.{File}
+use Rattle.base_fields.specs.Texts.{until_zero}
 use Rattle.console_core.specs.States.{State}
-use Rattle.console_core.specs.Commands.{fits_in, until_zero}
+use Rattle.console_core.specs.Commands.{fits_in}
 use Rattle.console_core.specs.Runs.{Ran, frame, input, line, overflowed}
 
 -- what a front keeps of a text is what it keeps of a front of the text and more

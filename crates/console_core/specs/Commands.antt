@@ -1,15 +1,19 @@
 -- The commands.
-use Rattle.std.specs.Prelude.{ℕ, ◌+◌, Bool, ◌==◌, nat_le, if◌then◌else◌, List, [], ◌∷◌, ◌++◌, length, drop, slice_index_or, Option, Some, None, codes, decimal}
-use Rattle.std.specs.List.{before_first}
+use Rattle.std.specs.Prelude.{ℕ, ◌+◌, Bool, ◌==◌, nat_le, if◌then◌else◌, List, [], ◌∷◌, ◌++◌, length, drop, slice_index_or, Option, Some, None, Result, Ok, Err, codes, decimal}
 use Rattle.std.specs.Str.{str_eq_ignore_ascii_case}
-use Rattle.base_fields.specs.Names.{lawful_name}
+use Rattle.base_fields.specs.Names.{lawful_name, base_of}
+use Rattle.base_fields.specs.Numbers.{number_of}
+use Rattle.base_fields.specs.Texts.{until_zero}
 use Rattle.outside_io.specs.Files.{File}
 use Rattle.mem_model.specs.Memory.{Memory, low_used}
-use Rattle.mem_model.specs.Operations.{low_free}
+use Rattle.mem_model.specs.Answer.{Answered}
+use Rattle.mem_model.specs.Event.{Shortage}
+use Rattle.mem_model.specs.Operations.{low_alloc, low_free, high_alloc, high_mark, high_free}
+use Rattle.block_report.specs.Reports.{report_text}
 use Rattle.cmd_buffer.specs.Words.{words_of}
 use Rattle.cmd_buffer.specs.Buffer.{cut, kept}
 use Rattle.reply_pieces.specs.Pieces.{joined}
-use Rattle.console_core.specs.States.{State, Did, says, loads}
+use Rattle.console_core.specs.States.{State, Did, says, takes, loads}
 use Rattle.console_core.specs.Loads.{Load, Missing, NoRoom, At, Loading, load_low}
 use Rattle.console_core.specs.declared.ends.Next.TheVariants.{Goes, Waits, Quits}
 use Rattle.console_core.specs.declared.verbs.Verb.{Verb}
@@ -25,7 +29,11 @@ verb_of word = if str_eq_ignore_ascii_case word (codes "file") then Some verb.Fi
     else (if str_eq_ignore_ascii_case word (codes "echo") then Some verb.Echo
     else (if str_eq_ignore_ascii_case word (codes "exec") then Some verb.Exec
     else (if str_eq_ignore_ascii_case word (codes "wait") then Some verb.Wait
-    else (if str_eq_ignore_ascii_case word (codes "quit") then Some verb.Quit else None))))
+    else (if str_eq_ignore_ascii_case word (codes "quit") then Some verb.Quit
+    else (if str_eq_ignore_ascii_case word (codes "reserve") then Some verb.Reserve
+    else (if str_eq_ignore_ascii_case word (codes "video") then Some verb.Video
+    else (if str_eq_ignore_ascii_case word (codes "level") then Some verb.Level
+    else (if str_eq_ignore_ascii_case word (codes "report") then Some verb.Report else None))))))))
 
 -- each word followed by a space, and a newline at the end
 abbrev pub spaced : List (List ℕ) → List ℕ
@@ -37,6 +45,9 @@ answer_echo s words = says s Goes (spaced (drop 1 words))
 
 abbrev pub bad_name : State → Did
 bad_name s = says s Goes (joined (codes "bad name\n" ∷ []))
+
+abbrev pub bad_number : State → Did
+bad_number s = says s Goes (joined (codes "bad number\n" ∷ []))
 
 abbrev pub short_text : ℕ → List ℕ
 short_text asked = joined (codes "failed on " ∷ decimal asked ∷ codes " bytes\n" ∷ [])
@@ -57,10 +68,6 @@ file_named files s (Some name) = filed s name (load_low files s.memory name)
 abbrev pub answer_file : List File → State → List (List ℕ) → Did
 answer_file files s words = file_named files s (lawful_name (word_at 1 words))
 
--- the bytes before the first zero
-abbrev pub until_zero : List ℕ → List ℕ
-until_zero bytes = before_first (λ byte. byte == 0) bytes
-
 -- the buffer holds 8191 bytes
 abbrev pub fits_in : List ℕ → List ℕ → Bool
 fits_in text buffer = nat_le (length buffer + length text) 8191
@@ -70,7 +77,7 @@ abbrev pub exec_text : List ℕ → Bool → List ℕ
 exec_text name fits = joined (codes "execing " ∷ name ∷ codes "\n" ∷ (if fits then [] else codes "overflow\n") ∷ [])
 
 abbrev pub inserted : State → Memory → List ℕ → List ℕ → Did
-inserted s m name text = loads (record { memory = m; buffer = (if fits_in text s.buffer then text ++ s.buffer else s.buffer) }) (exec_text name (fits_in text s.buffer))
+inserted s m name text = loads (record s { memory = m; buffer = (if fits_in text s.buffer then text ++ s.buffer else s.buffer) }) (exec_text name (fits_in text s.buffer))
 
 -- what was loaded is inserted in front of the buffer, and the low hunk is freed to the mark before the load
 abbrev pub executed : State → List ℕ → Memory → Load → Did
@@ -84,6 +91,45 @@ exec_named files s (Some name) = executed s name (load_low files s.memory name).
 
 abbrev pub answer_exec : List File → State → List (List ℕ) → Did
 answer_exec files s words = exec_named files s (lawful_name (word_at 1 words))
+
+-- what a command does with a number and a name, which are refused in this order
+abbrev pub of_number_and_name : State → (ℕ → List ℕ → Did) → Option ℕ → Option (List ℕ) → Did
+of_number_and_name s did None name = bad_number s
+of_number_and_name s did (Some size) None = bad_name s
+of_number_and_name s did (Some size) (Some name) = did size name
+
+abbrev pub block_text : (title name : List ℕ) → ℕ → Result ℕ Shortage → List ℕ
+block_text title name size (Err shortage) = short_text shortage.asked
+block_text title name size (Ok place) = joined (title ∷ name ∷ codes " " ∷ decimal size ∷ codes " at " ∷ decimal place ∷ codes "\n" ∷ [])
+
+-- a block was asked for, and the memory gave this
+abbrev pub given_block : State → (title name : List ℕ) → ℕ → Answered (Result ℕ Shortage) → Did
+given_block s title name size given = takes (record s { memory = given.after }) (block_text title name size given.answer)
+
+-- a low block, named by the name's base
+abbrev pub reserved : State → ℕ → List ℕ → Did
+reserved s size name = given_block s (codes "reserve ") name size (low_alloc s.memory size (base_of name))
+
+abbrev pub answer_reserve : State → List (List ℕ) → Did
+answer_reserve s words = of_number_and_name s (reserved s) (number_of (word_at 1 words)) (lawful_name (word_at 2 words))
+
+-- the memory with no high block
+abbrev pub high_cleared : Memory → Memory
+high_cleared m = (high_free (high_mark m).after 0).after
+
+-- a high block in the place of all others, which are freed whether there is room or not
+abbrev pub video_set : State → ℕ → List ℕ → Did
+video_set s size name = given_block s (codes "video ") name size (high_alloc (high_cleared s.memory) size (base_of name))
+
+abbrev pub answer_video : State → List (List ℕ) → Did
+answer_video s words = of_number_and_name s (video_set s) (number_of (word_at 1 words)) (lawful_name (word_at 2 words))
+
+-- the host level becomes where the low hunk ends
+abbrev pub answer_level : State → Did
+answer_level s = says (record s { level = low_used s.memory }) Goes (joined (codes "level " ∷ decimal (low_used s.memory) ∷ codes "\n" ∷ []))
+
+abbrev pub answer_report : State → Did
+answer_report s = says s Goes (report_text s.memory)
 
 abbrev pub unknown_word : State → List ℕ → Did
 unknown_word s word = says s Goes (joined (codes "Unknown command \"" ∷ word ∷ codes "\"\n" ∷ []))
@@ -99,6 +145,10 @@ by_verb files s words (Some verb.Echo) = answer_echo s words
 by_verb files s words (Some verb.Exec) = answer_exec files s words
 by_verb files s words (Some verb.Wait) = says s Waits []
 by_verb files s words (Some verb.Quit) = says s Quits []
+by_verb files s words (Some verb.Reserve) = answer_reserve s words
+by_verb files s words (Some verb.Video) = answer_video s words
+by_verb files s words (Some verb.Level) = answer_level s
+by_verb files s words (Some verb.Report) = answer_report s
 
 -- a text without words does nothing
 abbrev pub by_words : List File → State → List (List ℕ) → Did

@@ -4,7 +4,7 @@ use Rattle.outside_io.specs.Causes.{Rose}
 use Rattle.outside_io.specs.Files.{File}
 use Rattle.outside_io.specs.Streams.{Adds, Took}
 use Rattle.mem_model.specs.Memory.{new_memory}
-use Rattle.console_core.specs.States.{State}
+use Rattle.console_core.specs.States.{State, started}
 use Rattle.console_core.specs.Runs.{texts, IsCutShort, run_lines, lines_of, run}
 use Rattle.console_core.specs.Reading.{limit}
 use Rattle.console_core.specs.declared.words.Request.{Request}
@@ -49,9 +49,9 @@ fault_of (Err word) = Some word
 abbrev pub told_at : ℕ → List (Option (List File)) → Option (List File)
 told_at number files = option_and_then (λ told. told) (slice_get files number)
 
--- the state at the start: a heap of so many kilobytes with a zone of 48, for 768 cache users, and an empty buffer
+-- the state at the start, with a heap of so many kilobytes, a zone of 48 in it, and 768 cache users
 abbrev pub first_state : ℕ → State
-first_state kilobytes = record { memory = new_memory (1024 * kilobytes) 49152 768 0; buffer = [] }
+first_state kilobytes = started (new_memory (1024 * kilobytes) 49152 768 0)
 
 -- The replies of the run over the whole script were put, up to `quit` where that was executed. The script was taken to its
 -- end, or what was taken holds the line in whose frame `quit` was executed.

@@ -2,10 +2,11 @@
 use Prim.Native.Nat.{zero, suc}
 use Rattle.std.specs.Prelude.{◌≡◌, ℕ, List, [], ◌∷◌, ◌++◌, length, take, Bool, true, false, ◌==◌, if◌then◌else◌, Option, Some, None, Result, Ok, Err, codes}
 use Rattle.std.specs.List.{AllByRecursion}
+use Rattle.base_fields.specs.Texts.{until_zero}
 use Rattle.outside_io.specs.Files.{File}
 use Rattle.outside_io.specs.Streams.{Adds}
 use Rattle.console_core.specs.States.{State, Reply, CutsOff}
-use Rattle.console_core.specs.Commands.{command, fits_in, until_zero}
+use Rattle.console_core.specs.Commands.{command, fits_in}
 use Rattle.console_core.specs.declared.ends.Next.{Next}
 use Rattle.console_core.specs.declared.ends.Next.TheVariants.{Goes, Waits, Quits}
 use Rattle.console_core.specs.declared.ends.Fault.{Fault}
@@ -17,7 +18,7 @@ pub record Ran : Type 0 where
   pub quit : Bool
 
 abbrev pub plain : List ℕ → Reply
-plain text = record { text = text; load = false }
+plain text = record { text = text; load = false; takes = false }
 
 abbrev pub stopped : State → List Reply → Bool → Ran
 stopped s replies quit = record { after = s; replies = replies; quit = quit }

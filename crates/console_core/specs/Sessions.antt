@@ -9,7 +9,7 @@ use Rattle.console_core.specs.declared.ends.Fault.{Fault}
 use Rattle.console_core.specs.declared.ends.Fault.TheVariants as fault
 
 abbrev pub state_of : {M F : Type 0} → (M → Memory) → Session M F → State
-state_of state session = record { memory = state session.store; buffer = session.buffer }
+state_of state session = record { memory = state session.store; buffer = session.buffer; level = session.level }
 
 -- what a step's end tells: whether `quit` was executed, or the fault
 abbrev pub told_end : StepEnd → Result Bool Fault

@@ -1,22 +1,28 @@
 -- The state of a console, and what a command does to it.
-use Rattle.std.specs.Prelude.{◌≡◌, ◌≤◌, ℕ, List, Bool, true, false, Option, Result, Ok, Err, IfErr}
+use Rattle.std.specs.Prelude.{◌≡◌, ◌≤◌, ℕ, List, [], Bool, true, false, Option, Result, Ok, Err, IfErr}
 use Rattle.outside_io.specs.Causes.{Rose}
 use Rattle.outside_io.specs.Streams.{Adds, AddsFront}
-use Rattle.mem_model.specs.Memory.{Memory}
+use Rattle.mem_model.specs.Memory.{Memory, low_used}
 use Rattle.console_core.specs.declared.ends.Next.{Next}
 use Rattle.console_core.specs.declared.ends.Next.TheVariants.{Goes}
 use Rattle.console_core.specs.declared.ends.Fault.{Fault}
 use Rattle.console_core.specs.declared.ends.Fault.TheVariants as fault
 
--- the memory, and the bytes of the command buffer
+-- the memory, the bytes of the command buffer, and the host level: a mark of the low hunk
 pub record State : Type 0 where
   pub memory : Memory
   pub buffer : List ℕ
+  pub level : ℕ
 
--- what a command prints, and whether it asked for a file
+-- At the start the buffer is empty, and the host level is where the low hunk ends.
+abbrev pub started : Memory → State
+started m = record { memory = m; buffer = []; level = low_used m }
+
+-- what a command prints, whether it asked for a file, and whether it asked for memory
 pub record Reply : Type 0 where
   pub text : List ℕ
   pub load : Bool
+  pub takes : Bool
 
 -- what a command does: the state after it, its reply, and how the console goes on
 pub record Did : Type 0 where
@@ -24,13 +30,17 @@ pub record Did : Type 0 where
   pub reply : Reply
   pub next : Next
 
--- a command that asks for no file
+-- a command that asks for neither
 abbrev pub says : State → Next → List ℕ → Did
-says s next text = record { after = s; reply = record { text = text; load = false }; next = next }
+says s next text = record { after = s; reply = record { text = text; load = false; takes = false }; next = next }
 
--- a command that asks for a file
+-- a command that asks for memory
+abbrev pub takes : State → List ℕ → Did
+takes s text = record { after = s; reply = record { text = text; load = false; takes = true }; next = Goes }
+
+-- a command that asks for a file, and for memory to put it in
 abbrev pub loads : State → List ℕ → Did
-loads s text = record { after = s; reply = record { text = text; load = true }; next = Goes }
+loads s text = record { after = s; reply = record { text = text; load = true; takes = true }; next = Goes }
 
 -- All that a command does was done.
 pub record IsDone (did : Did) (answer : Next) (new : State) (start now : Option (List ℕ)) : Type 0 where
@@ -38,12 +48,12 @@ pub record IsDone (did : Did) (answer : Next) (new : State) (start now : Option 
   pub after : new ≡ did.after
   pub put : Adds did.reply.text start now
 
--- A fault ended a command in its reply: a failing sink took a front of it, and nothing of it was put where a folder failed or
--- memory ran out, as a command that asks for a file may answer.
+-- A fault ended a command in its reply: a failing sink took a front of it, and nothing of it was put where a folder failed, of
+-- which the command asked for a file, or where the memory ran out that it asked for.
 abbrev pub CutsOff : Reply → Fault → (start now : Option (List ℕ)) → Type 0
 CutsOff reply fault.Write start now = AddsFront reply.text start now
 CutsOff reply fault.Folder start now = (reply.load ≡ true) × (now ≡ start)
-CutsOff reply fault.Memory start now = (reply.load ≡ true) × (now ≡ start)
+CutsOff reply fault.Memory start now = (reply.takes ≡ true) × (now ≡ start)
 
 -- A call did what a command does, or a fault ended it in its reply.
 abbrev pub Follows : Did → Result Next Fault → State → (start now : Option (List ℕ)) → Type 0

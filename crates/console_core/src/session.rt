@@ -1,16 +1,17 @@
 // A session of the console.
-ghost use Rattle.std.specs.Prelude.{◌≡◌, ◌<◌, ◌≤◌, ◌++◌, ◌∷◌, [], length, drop, IfSome, OnOk, OnErr, IfOk, IfErr, IsSomeAnd, take, position, ◌==◌, if◌then◌else◌, false, true, codes};
+ghost use Rattle.std.specs.Prelude.{◌≡◌, ◌<◌, ◌≤◌, ◌++◌, ◌∷◌, [], length, drop, IfSome, OnOk, OnErr, IfOk, IfErr, IsSomeAnd, take, position, ◌==◌, if◌then◌else◌, false, true, codes, Ok};
+ghost use Rattle.base_fields.specs.Texts.{until_zero};
 ghost use Rattle.outside_io.specs.Causes.{Rose};
 ghost use Rattle.outside_io.specs.Streams.{Adds, AddsFront};
 ghost use Rattle.mem_model.specs.Laid.{Laid};
 ghost use Rattle.mem_model.specs.Hunk.{low_bytes};
 ghost use Rattle.mem_model.specs.Operations.{low_free};
 ghost use Rattle.cmd_buffer.specs.Buffer.{text_of_command};
-ghost use Rattle.reply_pieces.specs.Pieces.{text_of};
-ghost use Rattle.console_core.specs.States.{Replies, Follows, HasCauses};
+ghost use Rattle.reply_pieces.specs.Pieces.{text_of, joined};
+ghost use Rattle.console_core.specs.States.{started, Replies, Follows, HasCauses};
 ghost use Rattle.console_core.specs.Mounts.{told_files, count_of, folder_of};
 ghost use Rattle.console_core.specs.Loads.{load_low};
-ghost use Rattle.console_core.specs.Commands.{answer_echo, answer_file, answer_exec, file_named, exec_named, filed, executed, by_verb, by_words, by_text, command, spaced, until_zero, fits_in, exec_text, unknown, unknown_word};
+ghost use Rattle.console_core.specs.Commands.{answer_echo, answer_file, answer_exec, answer_reserve, answer_video, answer_level, answer_report, of_number_and_name, block_text, reserved, video_set, short_text, file_named, exec_named, filed, executed, by_verb, by_words, by_text, command, spaced, fits_in, exec_text, unknown, unknown_word};
 ghost use Rattle.console_core.specs.Sessions.{state_of, told_end, is_end, NamesTheFolder};
 ghost use Rattle.console_core.specs.Runs.{frame, finish, line, overflowed, input, ending, Runs};
 
@@ -18,9 +19,10 @@ use crate::ends::{Fault, Next, StepEnd};
 use crate::load::{LoadError, Loaded, load};
 use crate::paths::Paths;
 use crate::verbs::{Verb, find_verb};
-use base_fields::{GameName, game_name};
+use base_fields::{GameName, before_zero, decimal, game_name};
+use block_report::report;
 use cmd_buffer::{CmdBuffer, Command, Words, tokenize};
-use mem_model::Store;
+use mem_model::{Place, RoomError, Store};
 use outside_io::{Folder, Sink};
 use reply_pieces::{Piece, Reply, put_all};
 use std::alloc::AllocError;
@@ -37,6 +39,8 @@ pub struct Session<M: Store, F: Folder = Box<dyn Folder>> {
     store: M,
     paths: Paths<F>,
     buffer: CmdBuffer,
+    // The mark of the low hunk above which the next map frees.
+    level: u32,
     ended: bool,
 }
 
@@ -57,16 +61,18 @@ impl<M: Store, F: Folder> Session<M, F> {
     ///
     /// It holds what is handed in and values of fixed size, and takes no memory of its own.
     pub fn start(store: M, paths: Paths<F>) -> Result<Session<M, F>, AllocError>
-        ensures state { IfOk result (λ session. state_of M.state session ≡ record { memory = M.state store; buffer = [] }) }
+        ensures state { IfOk result (λ session. state_of M.state session ≡ started (M.state store)) }
         ensures files { IfOk result (λ session. told_files F.files session.paths ≡ told_files F.files paths) }
         ensures faults { IfOk result (λ session. count_of F.folder_faults session.paths ≡ count_of F.folder_faults paths) }
         ensures going { IfOk result (λ session. session.ended ≡ false) }
         ensures memory { OnErr result (M.frugal ≡ false) }
     {
+        let level = store.low_mark();
         Ok(Session {
             store,
             paths,
             buffer: CmdBuffer::create(),
+            level,
             ended: false,
         })
     }
@@ -101,15 +107,7 @@ impl<M: Store, F: Folder> Session<M, F> {
                     Piece::Text(b"\n"),
                 ],
             ),
-            Err(LoadError::NoRoom { asked }) => reply(
-                out,
-                Next::Goes,
-                &[
-                    Piece::Text(b"failed on "),
-                    Piece::Number(asked),
-                    Piece::Text(b" bytes\n"),
-                ],
-            ),
+            Err(LoadError::NoRoom { asked }) => put_short(out, asked),
             Err(LoadError::FolderFault) => Err(Fault::Folder),
             Err(LoadError::OutOfMemory) => Err(Fault::Memory),
         }
@@ -123,7 +121,7 @@ impl<M: Store, F: Folder> Session<M, F> {
     {
         match name {
             Some(name) => self.show_file(&name, out),
-            None => reply(out, Next::Goes, &[Piece::Text(b"bad name\n")]),
+            None => put_bad_name(out),
         }
     }
 
@@ -143,6 +141,7 @@ impl<M: Store, F: Folder> Session<M, F> {
         ensures fits { IfSome (low_bytes (M.state self.old.store) loaded.place.0) (λ bytes. result ≡ fits_in (until_zero (take loaded.length bytes)) self.old.buffer) }
         ensures memory { M.state self.new.store ≡ (low_free (M.state self.old.store) mark).after }
         ensures paths { self.new.paths ≡ self.old.paths }
+        ensures level { self.new.level ≡ self.old.level }
         ensures laid { Laid (M.state self.old.store) → Laid (M.state self.new.store) }
     {
         let bytes = self.store.low_bytes(loaded.place);
@@ -176,15 +175,7 @@ impl<M: Store, F: Folder> Session<M, F> {
                     Piece::Text(b"\n"),
                 ],
             ),
-            Err(LoadError::NoRoom { asked }) => reply(
-                out,
-                Next::Goes,
-                &[
-                    Piece::Text(b"failed on "),
-                    Piece::Number(asked),
-                    Piece::Text(b" bytes\n"),
-                ],
-            ),
+            Err(LoadError::NoRoom { asked }) => put_short(out, asked),
             Err(LoadError::FolderFault) => Err(Fault::Folder),
             Err(LoadError::OutOfMemory) => Err(Fault::Memory),
         }
@@ -198,7 +189,7 @@ impl<M: Store, F: Folder> Session<M, F> {
     {
         match name {
             Some(name) => self.execute(&name, out),
-            None => reply(out, Next::Goes, &[Piece::Text(b"bad name\n")]),
+            None => put_bad_name(out),
         }
     }
 
@@ -218,6 +209,142 @@ impl<M: Store, F: Folder> Session<M, F> {
         ensures causes { HasCauses M.frugal (count_of F.folder_faults self.old.paths) (count_of F.folder_faults self.new.paths) (O.sink_faults out.old) (O.sink_faults out.new) result }
     {
         put_echo(words, out)
+    }
+
+    fn reserve_block<O: Sink>(
+        &mut self,
+        size: u32,
+        name: &GameName,
+        out: &mut O,
+    ) -> Result<Next, Fault>
+        ensures told { IfSome (told_files F.files self.old.paths) (λ files. Follows (reserved (state_of M.state self.old) size name.now) result (state_of M.state self.new) (O.got out.old) (O.got out.new)) }
+        ensures files { told_files F.files self.new.paths ≡ told_files F.files self.old.paths }
+        ensures laid { Laid (M.state self.old.store) → Laid (M.state self.new.store) }
+        ensures causes { HasCauses M.frugal (count_of F.folder_faults self.old.paths) (count_of F.folder_faults self.new.paths) (O.sink_faults out.old) (O.sink_faults out.new) result }
+    {
+        match self.store.low_alloc(u64::from(size), name.base()) {
+            Ok(place) => put_block(out, b"reserve ", name.bytes(), size, place),
+            Err(RoomError::NoRoom { asked, .. }) => put_short(out, asked),
+            Err(RoomError::OutOfMemory) => Err(Fault::Memory),
+        }
+    }
+
+    fn reserve_named<O: Sink>(
+        &mut self,
+        size: Option<u32>,
+        name: Option<GameName>,
+        out: &mut O,
+    ) -> Result<Next, Fault>
+        ensures told { IfSome (told_files F.files self.old.paths) (λ files. Follows (of_number_and_name (state_of M.state self.old) (reserved (state_of M.state self.old)) size name) result (state_of M.state self.new) (O.got out.old) (O.got out.new)) }
+        ensures files { told_files F.files self.new.paths ≡ told_files F.files self.old.paths }
+        ensures laid { Laid (M.state self.old.store) → Laid (M.state self.new.store) }
+        ensures causes { HasCauses M.frugal (count_of F.folder_faults self.old.paths) (count_of F.folder_faults self.new.paths) (O.sink_faults out.old) (O.sink_faults out.new) result }
+    {
+        match size {
+            None => put_bad_number(out),
+            Some(size) => match name {
+                None => put_bad_name(out),
+                Some(name) => self.reserve_block(size, &name, out),
+            },
+        }
+    }
+
+    fn reserve<O: Sink>(&mut self, words: &Words<'_>, out: &mut O) -> Result<Next, Fault>
+        ensures told { IfSome (told_files F.files self.old.paths) (λ files. Follows (answer_reserve (state_of M.state self.old) words.now) result (state_of M.state self.new) (O.got out.old) (O.got out.new)) }
+        ensures files { told_files F.files self.new.paths ≡ told_files F.files self.old.paths }
+        ensures laid { Laid (M.state self.old.store) → Laid (M.state self.new.store) }
+        ensures causes { HasCauses M.frugal (count_of F.folder_faults self.old.paths) (count_of F.folder_faults self.new.paths) (O.sink_faults out.old) (O.sink_faults out.new) result }
+    {
+        self.reserve_named(
+            decimal(words.word(1)).ok(),
+            game_name(words.word(2)).ok(),
+            out,
+        )
+    }
+
+    // Frees the high hunk, and then asks for a block there.
+    fn video_block<O: Sink>(
+        &mut self,
+        size: u32,
+        name: &GameName,
+        out: &mut O,
+    ) -> Result<Next, Fault>
+        ensures told { IfSome (told_files F.files self.old.paths) (λ files. Follows (video_set (state_of M.state self.old) size name.now) result (state_of M.state self.new) (O.got out.old) (O.got out.new)) }
+        ensures files { told_files F.files self.new.paths ≡ told_files F.files self.old.paths }
+        ensures laid { Laid (M.state self.old.store) → Laid (M.state self.new.store) }
+        ensures causes { HasCauses M.frugal (count_of F.folder_faults self.old.paths) (count_of F.folder_faults self.new.paths) (O.sink_faults out.old) (O.sink_faults out.new) result }
+    {
+        self.store.high_mark();
+        let _ = self.store.high_free(0);
+        match self.store.high_alloc(u64::from(size), name.base()) {
+            Ok(place) => put_block(out, b"video ", name.bytes(), size, place),
+            Err(RoomError::NoRoom { asked, .. }) => put_short(out, asked),
+            Err(RoomError::OutOfMemory) => Err(Fault::Memory),
+        }
+    }
+
+    fn video_named<O: Sink>(
+        &mut self,
+        size: Option<u32>,
+        name: Option<GameName>,
+        out: &mut O,
+    ) -> Result<Next, Fault>
+        ensures told { IfSome (told_files F.files self.old.paths) (λ files. Follows (of_number_and_name (state_of M.state self.old) (video_set (state_of M.state self.old)) size name) result (state_of M.state self.new) (O.got out.old) (O.got out.new)) }
+        ensures files { told_files F.files self.new.paths ≡ told_files F.files self.old.paths }
+        ensures laid { Laid (M.state self.old.store) → Laid (M.state self.new.store) }
+        ensures causes { HasCauses M.frugal (count_of F.folder_faults self.old.paths) (count_of F.folder_faults self.new.paths) (O.sink_faults out.old) (O.sink_faults out.new) result }
+    {
+        match size {
+            None => put_bad_number(out),
+            Some(size) => match name {
+                None => put_bad_name(out),
+                Some(name) => self.video_block(size, &name, out),
+            },
+        }
+    }
+
+    fn video<O: Sink>(&mut self, words: &Words<'_>, out: &mut O) -> Result<Next, Fault>
+        ensures told { IfSome (told_files F.files self.old.paths) (λ files. Follows (answer_video (state_of M.state self.old) words.now) result (state_of M.state self.new) (O.got out.old) (O.got out.new)) }
+        ensures files { told_files F.files self.new.paths ≡ told_files F.files self.old.paths }
+        ensures laid { Laid (M.state self.old.store) → Laid (M.state self.new.store) }
+        ensures causes { HasCauses M.frugal (count_of F.folder_faults self.old.paths) (count_of F.folder_faults self.new.paths) (O.sink_faults out.old) (O.sink_faults out.new) result }
+    {
+        self.video_named(
+            decimal(words.word(1)).ok(),
+            game_name(words.word(2)).ok(),
+            out,
+        )
+    }
+
+    // Sets the host level to where the low hunk ends.
+    fn set_level<O: Sink>(&mut self, out: &mut O) -> Result<Next, Fault>
+        ensures told { IfSome (told_files F.files self.old.paths) (λ files. Follows (answer_level (state_of M.state self.old)) result (state_of M.state self.new) (O.got out.old) (O.got out.new)) }
+        ensures files { told_files F.files self.new.paths ≡ told_files F.files self.old.paths }
+        ensures laid { Laid (M.state self.old.store) → Laid (M.state self.new.store) }
+        ensures causes { HasCauses M.frugal (count_of F.folder_faults self.old.paths) (count_of F.folder_faults self.new.paths) (O.sink_faults out.old) (O.sink_faults out.new) result }
+    {
+        self.level = self.store.low_mark();
+        reply(
+            out,
+            Next::Goes,
+            &[
+                Piece::Text(b"level "),
+                Piece::Number(u64::from(self.level)),
+                Piece::Text(b"\n"),
+            ],
+        )
+    }
+
+    fn report_blocks<O: Sink>(&mut self, out: &mut O) -> Result<Next, Fault>
+        ensures told { IfSome (told_files F.files self.old.paths) (λ files. Follows (answer_report (state_of M.state self.old)) result (state_of M.state self.new) (O.got out.old) (O.got out.new)) }
+        ensures files { told_files F.files self.new.paths ≡ told_files F.files self.old.paths }
+        ensures laid { Laid (M.state self.old.store) → Laid (M.state self.new.store) }
+        ensures causes { HasCauses M.frugal (count_of F.folder_faults self.old.paths) (count_of F.folder_faults self.new.paths) (O.sink_faults out.old) (O.sink_faults out.new) result }
+    {
+        match report(&self.store, out) {
+            Ok(()) => Ok(Next::Goes),
+            Err(_) => Err(Fault::Write),
+        }
     }
 
     fn unknown_word<O: Sink>(&mut self, word: &[u8], out: &mut O) -> Result<Next, Fault>
@@ -265,6 +392,10 @@ impl<M: Store, F: Folder> Session<M, F> {
             Some(Verb::Exec) => self.exec(words, out),
             Some(Verb::Wait) => Ok(Next::Waits),
             Some(Verb::Quit) => Ok(Next::Quits),
+            Some(Verb::Reserve) => self.reserve(words, out),
+            Some(Verb::Video) => self.video(words, out),
+            Some(Verb::Level) => self.set_level(out),
+            Some(Verb::Report) => self.report_blocks(out),
         }
     }
 
@@ -470,20 +601,64 @@ fn put_runaway<O: Sink>(out: &mut O) -> Result<bool, Fault>
     }
 }
 
-// The bytes before the first zero.
-fn before_zero(bytes: &[u8]) -> &[u8]
-    ensures { result.now ≡ until_zero bytes.now }
+fn put_bad_name<O: Sink>(out: &mut O) -> Result<Next, Fault>
+    ensures replies { Replies (joined (codes "bad name\n" ∷ [])) Next.Goes result (O.got out.old) (O.got out.new) }
+    ensures write { OnErr result (Rose (O.sink_faults out.old) (O.sink_faults out.new)) }
+    ensures faults { O.sink_faults out.old ≤ O.sink_faults out.new }
 {
-    match first_zero(bytes) {
-        Some(end) => &bytes[..end],
-        None => bytes,
-    }
+    reply(out, Next::Goes, &[Piece::Text(b"bad name\n")])
 }
 
-fn first_zero(bytes: &[u8]) -> Option<usize>
-    ensures { result ≡ position (λ byte. byte == 0) bytes.now }
+fn put_bad_number<O: Sink>(out: &mut O) -> Result<Next, Fault>
+    ensures replies { Replies (joined (codes "bad number\n" ∷ [])) Next.Goes result (O.got out.old) (O.got out.new) }
+    ensures write { OnErr result (Rose (O.sink_faults out.old) (O.sink_faults out.new)) }
+    ensures faults { O.sink_faults out.old ≤ O.sink_faults out.new }
 {
-    bytes.iter().position(|byte| *byte == 0)
+    reply(out, Next::Goes, &[Piece::Text(b"bad number\n")])
+}
+
+// Says that a block of this need was refused.
+fn put_short<O: Sink>(out: &mut O, asked: u64) -> Result<Next, Fault>
+    ensures replies { Replies (short_text asked) Next.Goes result (O.got out.old) (O.got out.new) }
+    ensures write { OnErr result (Rose (O.sink_faults out.old) (O.sink_faults out.new)) }
+    ensures faults { O.sink_faults out.old ≤ O.sink_faults out.new }
+{
+    reply(
+        out,
+        Next::Goes,
+        &[
+            Piece::Text(b"failed on "),
+            Piece::Number(asked),
+            Piece::Text(b" bytes\n"),
+        ],
+    )
+}
+
+// Shows a new block.
+fn put_block<'a, O: Sink>(
+    out: &mut O,
+    title: &'a [u8],
+    name: &'a [u8],
+    size: u32,
+    place: Place,
+) -> Result<Next, Fault>
+    ensures replies { Replies (block_text title.now name.now size (Ok place.0)) Next.Goes result (O.got out.old) (O.got out.new) }
+    ensures write { OnErr result (Rose (O.sink_faults out.old) (O.sink_faults out.new)) }
+    ensures faults { O.sink_faults out.old ≤ O.sink_faults out.new }
+{
+    reply(
+        out,
+        Next::Goes,
+        &[
+            Piece::Text(title),
+            Piece::Text(name),
+            Piece::Text(b" "),
+            Piece::Number(u64::from(size)),
+            Piece::Text(b" at "),
+            Piece::Number(u64::from(place.0)),
+            Piece::Text(b"\n"),
+        ],
+    )
 }
 
 fn put_executed<O: Sink>(out: &mut O, name: &[u8], inserted: bool) -> Result<Next, Fault>

@@ -190,6 +190,44 @@ fn commands_are_answered(rt: HostRuntime) -> Result<(), Fail> {
 }
 
 #[test]
+fn blocks_are_asked_for_and_reported(rt: HostRuntime) -> Result<(), Fail> {
+    let cases = [
+        (
+            "video 100 v\nreport",
+            "video v 100 at 1048464\nhunk 1048576 low 49168 high 128 room 999280 temp 0\nlow 0 49168 zone\nhigh 1048448 128 v\n",
+        ),
+        (
+            "reserve 999392 big;reserve 0 x",
+            "reserve big 999392 at 49184\nfailed on 16 bytes\n",
+        ),
+        (
+            "report;reserve 1000000 big;REPORT x",
+            "hunk 1048576 low 49168 high 0 room 999408 temp 0\nlow 0 49168 zone\nfailed on 1000016 bytes\nhunk 1048576 low 49168 high 0 room 999408 temp 0\nlow 0 49168 zone\n",
+        ),
+        (
+            "reserve;reserve x ../a;reserve 1234567890 a;reserve 1;reserve 001 /a;video a b;video 1 ..",
+            "bad number\nbad number\nbad number\nbad name\nbad name\nbad number\nbad name\n",
+        ),
+        (
+            "video 100 a;video 0200 maps/b.lmp;file a.txt;report",
+            "video a 100 at 1048464\nvideo maps/b.lmp 200 at 1048368\nfile a.txt 5 at 49184\nhunk 1048576 low 49200 high 224 room 999152 temp 0\nlow 0 49168 zone\nlow 49168 32 a\nhigh 1048352 224 b\n",
+        ),
+        (
+            "video 100 a;video 1000000 b;report",
+            "video a 100 at 1048464\nfailed on 1000016 bytes\nhunk 1048576 low 49168 high 0 room 999408 temp 0\nlow 0 49168 zone\n",
+        ),
+        (
+            "level;reserve 100 x;Level y",
+            "level 49168\nreserve x 100 at 49184\nlevel 49296\n",
+        ),
+    ];
+    for (text, put) in cases {
+        check_answers(&rt, rt.alloc(), b"", text.as_bytes(), put)?;
+    }
+    Ok(())
+}
+
+#[test]
 fn executed_files_come_before_what_is_left(rt: HostRuntime) -> Result<(), Fail> {
     let alloc = rt.alloc();
     let cases = [

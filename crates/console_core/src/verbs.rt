@@ -11,6 +11,10 @@ pub enum Verb {
     Exec,
     Wait,
     Quit,
+    Reserve,
+    Video,
+    Level,
+    Report,
 }
 
 // Whether the two are the same but for the case of their letters.
@@ -38,6 +42,18 @@ pub fn find_verb(word: &[u8]) -> Option<Verb>
     }
     if is_same(word, b"quit") {
         return Some(Verb::Quit);
+    }
+    if is_same(word, b"reserve") {
+        return Some(Verb::Reserve);
+    }
+    if is_same(word, b"video") {
+        return Some(Verb::Video);
+    }
+    if is_same(word, b"level") {
+        return Some(Verb::Level);
+    }
+    if is_same(word, b"report") {
+        return Some(Verb::Report);
     }
     None
 }

@@ -7,8 +7,8 @@ use Rattle.console_core.proofs.session.Session.execute.Goals as goal
 
 pub returns-in-Ok-clause-told : goal.returns-in-Ok-clause-told
 returns-in-Ok-clause-told g c = of_files (told_files g.F.Folder.files c.args.self.now.paths) c.in-Ok.ensures.told (λ files is.
-    follow_loaded (state_of g.M.Store.state c.args.self.now) c.args.name.now (load_low files (g.M.Store.state c.args.self.now.store) c.args.name.now) _ _ _ _ _ c.in-Ok.loaded _ _ _ is c.low_mark-mark.ensures.mark
-    c.insert_loaded-inserted.ensures.buffer c.insert_loaded-inserted.ensures.fits c.insert_loaded-inserted.ensures.memory (rw c.bytes.ensures.value at c.put_executed.ensures.replies))
+    follow_loaded (state_of g.M.Store.state c.args.self.now) c.args.name.now (load_low files (g.M.Store.state c.args.self.now.store) c.args.name.now) _ _ _ _ _ c.in-Ok.loaded _ _ _ _ is c.low_mark-mark.ensures.mark
+    c.insert_loaded-inserted.ensures.buffer c.insert_loaded-inserted.ensures.fits c.insert_loaded-inserted.ensures.memory c.insert_loaded-inserted.ensures.level (rw c.bytes.ensures.value at c.put_executed.ensures.replies))
 
 pub returns-in-Err-NotFound-clause-told : goal.returns-in-Err-NotFound-clause-told
 returns-in-Err-NotFound-clause-told g c = of_files (told_files g.F.Folder.files c.args.self.now.paths) (rw c.in-Err-NotFound.field-0-is at c.in-Err-NotFound.ensures.told) (λ files is.
@@ -16,4 +16,4 @@ returns-in-Err-NotFound-clause-told g c = of_files (told_files g.F.Folder.files 
 
 pub returns-in-Err-NoRoom-clause-told : goal.returns-in-Err-NoRoom-clause-told
 returns-in-Err-NoRoom-clause-told g c = of_files (told_files g.F.Folder.files c.args.self.now.paths) (rw c.in-Err-NoRoom.field-0-is at c.in-Err-NoRoom.ensures.told) (λ files is.
-    follow_short (state_of g.M.Store.state c.args.self.now) c.args.name.now (load_low files (g.M.Store.state c.args.self.now.store) c.args.name.now) _ _ _ _ _ is c.reply-in-Err-NoRoom.ensures.replies)
+    follow_short (state_of g.M.Store.state c.args.self.now) c.args.name.now (load_low files (g.M.Store.state c.args.self.now.store) c.args.name.now) _ _ _ _ _ is c.put_short.ensures.replies)

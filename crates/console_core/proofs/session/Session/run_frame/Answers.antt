@@ -12,7 +12,7 @@ use Rattle.console_core.proofs.session.Session.run_frame.Goals as goal
 pub returns-then-budget-eq0-clause-told : goal.returns-then-budget-eq0-clause-told
 returns-then-budget-eq0-clause-told g c =
     let state = state_of g.M.Store.state in
-    let buffer_of : List ℕ → State = λ (b : List ℕ). record { memory = g.M.Store.state c.commands.self.store; buffer = b } in
+    let buffer_of : List ℕ → State = λ (b : List ℕ). record (state_of g.M.Store.state c.commands.self) { buffer = b } in
     of_files (told_files g.F.Folder.files c.args.self.now.paths) c.commands.invariant.told (λ files so_far.
     last_runs (frame c.args.through files 4096 (state c.args.self.now)) (frame c.args.through files c.commands.budget (state c.commands.self)) (buffer_of c.clear.new.self) (codes "runaway\n") false c.put_runaway.result _ _ _
     (frame_away c.args.through files c.commands.budget (state c.commands.self) c.if-budget-eq0.true (omega arith) ∙ ap (λ (b : List ℕ). stopped (buffer_of b) (plain (codes "runaway\n") ∷ []) false) (sym c.clear.ensures))

@@ -1,0 +1,37 @@
+-- The text of a report: a function of the memory alone.
+use Rattle.std.specs.Prelude.{ℕ, List, [], ◌∷◌, ◌++◌, is_some, if◌then◌else◌, decimal, codes}
+use Rattle.base_fields.specs.Texts.{until_zero}
+use Rattle.mem_model.specs.Memory.{Memory, low_used, high_used, room}
+use Rattle.mem_model.specs.Rows.{Row, low_rows, high_rows}
+use Rattle.reply_pieces.specs.Pieces.{joined}
+use Rattle.block_report.specs.declared.Part.{Part}
+use Rattle.block_report.specs.declared.Part.TheVariants.{Low, High}
+
+-- the sizes, and whether a temporary block is active
+abbrev pub summary : Memory → List ℕ
+summary m = joined (codes "hunk " ∷ decimal m.size ∷ codes " low " ∷ decimal (low_used m) ∷ codes " high " ∷ decimal (high_used m)
+    ∷ codes " room " ∷ decimal (room m) ∷ codes " temp " ∷ decimal (if is_some m.temp then 1 else 0) ∷ codes "\n" ∷ [])
+
+-- the blocks of a part of the memory, in rising order of place
+abbrev pub rows_of : Memory → Part → List Row
+rows_of m Low = low_rows m
+rows_of m High = high_rows m
+
+abbrev pub title : Part → List ℕ
+title Low = codes "low "
+title High = codes "high "
+
+-- the line of a block, whose name is shown up to its first zero
+abbrev pub row_line : Part → Row → List ℕ
+row_line part row = joined (title part ∷ decimal row.place ∷ codes " " ∷ decimal row.size ∷ codes " " ∷ until_zero row.name ∷ codes "\n" ∷ [])
+
+abbrev pub row_lines : Part → List Row → List ℕ
+row_lines part [] = []
+row_lines part (row ∷ rows) = row_line part row ++ row_lines part rows
+
+-- the lines of all blocks of a part
+abbrev pub part_lines : Memory → Part → List ℕ
+part_lines m part = row_lines part (rows_of m part)
+
+unfoldable pub report_text : Memory → List ℕ
+report_text m = joined (summary m ∷ part_lines m Low ∷ part_lines m High ∷ [])
