@@ -1,6 +1,6 @@
 -- What a report says of the blocks, in rising order of place.
 use Rattle.std.specs.Prelude.{ℕ, ◌+◌, ◌-◌, List, [], ◌∷◌, ◌++◌, Bool, true, length, replicate}
-use Rattle.mem_model.specs.Blocks.{HunkBlock}
+use Rattle.mem_model.specs.Blocks.{HunkBlock, ZoneBlock}
 use Rattle.mem_model.specs.Memory.{Memory}
 
 -- the place of the header, and the name of 16 bytes
@@ -33,3 +33,15 @@ low_rows m = rows_up 0 m.low
 
 abbrev pub high_rows : Memory → List Row
 high_rows m = rows_down m.size m.high
+
+-- A block of the zone has no name and no user.
+abbrev pub zone_row : ℕ → ZoneBlock → Row
+zone_row place b = record { place = place; size = b.size; name = padded []; user = 0; used = b.used }
+
+-- the rows of zone blocks that lie upwards from `start`
+abbrev pub zone_rows_up : ℕ → List ZoneBlock → List Row
+zone_rows_up start [] = []
+zone_rows_up start (b ∷ bs) = zone_row start b ∷ zone_rows_up (start + b.size) bs
+
+abbrev pub zone_rows : Memory → List Row
+zone_rows m = zone_rows_up 48 m.zone.blocks

@@ -1,6 +1,6 @@
 -- What a call's result tells of the operation's answer: none where the call ran out of memory.
 use Rattle.std.specs.Prelude.{ℕ, Option, Some, None, Result, Ok, Err}
-use Rattle.mem_model.specs.Event.{Shortage}
+use Rattle.mem_model.specs.Event.{Shortage, FreeRefusal, FreeRefusal.NotZone, FreeRefusal.AlreadyFree}
 use Rattle.std.specs.Option.{option_map}
 use Rattle.mem_model.specs.Rows.{Row}
 use Rattle.mem_model.specs.declared.answers.BlockRow.{BlockRow}
@@ -8,11 +8,25 @@ use Rattle.mem_model.specs.declared.answers.Place.{Place}
 use Rattle.mem_model.specs.declared.answers.BadMark.{BadMark}
 use Rattle.mem_model.specs.declared.answers.RoomError.{RoomError}
 use Rattle.mem_model.specs.declared.answers.RoomError.TheVariants as room_error
+use Rattle.mem_model.specs.declared.answers.ZoneError.{ZoneError}
+use Rattle.mem_model.specs.declared.answers.ZoneError.TheVariants as zone_error
+use Rattle.mem_model.specs.declared.answers.FreeError.{FreeError}
+use Rattle.mem_model.specs.declared.answers.FreeError.TheVariants as free_error
 
 abbrev pub room_answer : Result Place RoomError → Option (Result ℕ Shortage)
 room_answer (Ok place) = Some (Ok place.0)
 room_answer (Err (room_error.NoRoom asked room)) = Some (Err (record { asked = asked; room = room }))
 room_answer (Err room_error.OutOfMemory) = None
+
+abbrev pub zone_answer : Result Place ZoneError → Option (Result ℕ ℕ)
+zone_answer (Ok place) = Some (Ok place.0)
+zone_answer (Err (zone_error.Full asked)) = Some (Err asked)
+zone_answer (Err zone_error.OutOfMemory) = None
+
+abbrev pub free_answer : Result (Unit {0}) FreeError → Result (Unit {0}) FreeRefusal
+free_answer (Ok done) = Ok done
+free_answer (Err (free_error.NotZone place)) = Err (NotZone place)
+free_answer (Err (free_error.AlreadyFree place)) = Err (AlreadyFree place)
 
 abbrev pub mark_answer : Result (Unit {0}) BadMark → Result (Unit {0}) ℕ
 mark_answer (Ok done) = Ok done

@@ -3,8 +3,9 @@ use Prim.Native.Nat.{zero, suc}
 use Rattle.std.specs.Prelude.{ℕ, ◌+◌, ◌-◌, ◌%◌, List, [], ◌∷◌, ◌++◌, true, false, ◌&&◌, nat_lt, nat_le, nat_eq, not, Option, Some, None, if◌then◌else◌, length, take, drop, replicate, map, position, slice_get}
 use Rattle.std.specs.Option.{option_map}
 use Rattle.mem_model.specs.Blocks.{ZoneBlock}
-use Rattle.mem_model.specs.Memory.{Zone}
+use Rattle.mem_model.specs.Memory.{Memory, Zone}
 use Rattle.mem_model.specs.Places.{least}
+use Rattle.mem_model.specs.Hunk.{over}
 
 abbrev pub free_block : ℕ → ZoneBlock
 free_block size = record { size = size; used = false; bytes = [] }
@@ -84,3 +85,34 @@ freed_at z i (Some b) = record z { blocks = replaced z.blocks i (free_block b.si
 unfoldable pub with_free : Zone → ℕ → Zone
 with_free z zero = joined_at (freed_at z zero (slice_get z.blocks zero)) zero
 with_free z (suc i) = joined_at (joined_at (freed_at z (suc i) (slice_get z.blocks (suc i))) (suc i)) i
+
+-- the bytes of a block in use
+abbrev pub used_bytes : ZoneBlock → Option (List ℕ)
+used_bytes b = if b.used then Some b.bytes else None
+
+-- the bytes of the used block whose payload is at this place, where the first block begins at `start`
+abbrev pub used_bytes_from : ℕ → List ZoneBlock → ℕ → Option (List ℕ)
+used_bytes_from start [] place = None
+used_bytes_from start (b ∷ bs) place = if nat_eq (start + 24) place then used_bytes b else used_bytes_from (start + b.size) bs place
+
+-- a block with bytes written over its own; a free one has none
+abbrev pub with_payload : ZoneBlock → List ℕ → ZoneBlock
+with_payload b bytes = record b { bytes = over b.bytes bytes }
+
+-- the blocks with bytes written into the one whose payload is at this place
+abbrev pub with_payload_from : ℕ → List ZoneBlock → ℕ → List ℕ → List ZoneBlock
+with_payload_from start [] place bytes = []
+with_payload_from start (b ∷ bs) place bytes =
+    if nat_eq (start + 24) place then with_payload b bytes ∷ bs else b ∷ with_payload_from (start + b.size) bs place bytes
+
+-- the bytes of the used zone block whose payload is at this place
+unfoldable pub zone_bytes : Memory → ℕ → Option (List ℕ)
+zone_bytes m place = used_bytes_from 48 m.zone.blocks place
+
+-- the memory with bytes written into that block
+unfoldable pub with_zone_bytes : Memory → ℕ → List ℕ → Memory
+with_zone_bytes m place bytes = record m { zone = record m.zone { blocks = with_payload_from 48 m.zone.blocks place bytes } }
+
+-- where the rover stands; the cap, behind the last block, counts as standing at 20, in the zone's header
+unfoldable pub rover_place : Zone → ℕ
+rover_place z = if nat_lt z.rover (length z.blocks) then place_at z.blocks z.rover else 20

@@ -20,6 +20,23 @@ pub struct BadMark {
     pub mark: u32,
 }
 
+/// Why the zone gave no block.
+#[derive(Clone, Copy, Debug, PartialEq, Eq)]
+pub enum ZoneError {
+    /// No free block has the `asked` bytes that the new one needs, its header and its end mark included.
+    Full { asked: u64 },
+    OutOfMemory,
+}
+
+/// Why a place of the zone was not freed.
+#[derive(Clone, Copy, Debug, PartialEq, Eq)]
+pub enum FreeError {
+    /// No block of the zone has its payload there.
+    NotZone { place: u32 },
+    /// The block there is free.
+    AlreadyFree { place: u32 },
+}
+
 /// What a report says of a block.
 #[derive(Clone, Copy, Debug, PartialEq, Eq)]
 pub struct BlockRow {
@@ -51,6 +68,17 @@ impl From<AllocError> for RoomError {
 
     fn from(_error: AllocError) -> Self {
         RoomError::OutOfMemory
+    }
+}
+
+impl From<AllocError> for ZoneError {
+    ghost use Rattle.mem_model.specs.declared.answers.ZoneError.{ZoneError};
+    ghost use Rattle.std.specs.Prelude.{◌≡◌};
+
+    ghost from_gives = { λ _ e. e ≡ ZoneError.OutOfMemory };
+
+    fn from(_error: AllocError) -> Self {
+        ZoneError::OutOfMemory
     }
 }
 

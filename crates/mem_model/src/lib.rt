@@ -10,6 +10,6 @@ mod store;
 #[cfg(test)]
 mod tests;
 
-pub use answers::{BadMark, BlockRow, Place, RoomError, StoreStart};
+pub use answers::{BadMark, BlockRow, FreeError, Place, RoomError, StoreStart, ZoneError};
 pub use plain::PlainStore;
 pub use store::Store;

@@ -4,13 +4,14 @@ ghost use Rattle.std.specs.Prelude.{◌≡◌, ℕ, ◌≤◌, ◌^◌, List, Bo
 ghost use Rattle.std.specs.Borrow.{sem, Lends, u8 as byte, Array};
 ghost use Rattle.mem_model.specs.Memory.{Memory, low_used, high_used, room};
 ghost use Rattle.mem_model.specs.Answer.{Answers, Gives};
-ghost use Rattle.mem_model.specs.Told.{room_answer, mark_answer, row_answer};
-ghost use Rattle.mem_model.specs.Rows.{low_rows, high_rows};
-ghost use Rattle.mem_model.specs.Operations.{low_alloc, low_free, high_alloc, high_mark, high_free, temp_alloc};
+ghost use Rattle.mem_model.specs.Told.{room_answer, zone_answer, free_answer, mark_answer, row_answer};
+ghost use Rattle.mem_model.specs.Rows.{low_rows, high_rows, zone_rows};
+ghost use Rattle.mem_model.specs.Operations.{low_alloc, low_free, high_alloc, high_mark, high_free, temp_alloc, z_alloc, z_free};
 ghost use Rattle.mem_model.specs.Hunk.{low_bytes, with_low_bytes, temp_bytes, with_temp_bytes, without_temp};
+ghost use Rattle.mem_model.specs.Zone.{zone_bytes, with_zone_bytes, rover_place};
 ghost use Rattle.mem_model.specs.Laid.{Laid, IsText};
 
-use crate::answers::{BadMark, BlockRow, Place, RoomError};
+use crate::answers::{BadMark, BlockRow, FreeError, Place, RoomError, ZoneError};
 
 /// A keeper of one arena. A block is known by the place of its payload. Sizes, places and marks are in bytes.
 pub trait Store: Drop {
@@ -25,6 +26,9 @@ pub trait Store: Drop {
 
     /// The store with these bytes in the active temporary block.
     ghost temp_written: { Self → List ℕ → Self };
+
+    /// The store with these bytes in a used block of the zone.
+    ghost zone_written: { Self → ℕ → List ℕ → Self };
 
     /// Allocates `size` zero bytes at the end of the low hunk, with the first 8 bytes of a name, and answers their
     /// place. The block takes `size` rounded up to a multiple of 16, and a header of 16.
@@ -136,6 +140,53 @@ pub trait Store: Drop {
     fn high_row(&self, number: u32) -> Option<BlockRow>
         ensures row { row_answer result ≡ slice_get (high_rows (state self.now)) number };
 
+    /// Allocates `size` zero bytes in the zone, and answers their place. The block takes `size` and 28 bytes, rounded up
+    /// to a multiple of 8. It is cut from the first free block that holds this, in the ring that begins at the rover; a
+    /// rest of 64 bytes or less stays with it. The rover then stands behind it.
+    ///
+    /// `Full` comes exactly where no free block holds it. It adds its event where events are kept, and changes nothing
+    /// else. Want of memory changes nothing.
+    fn z_alloc(&mut self, size: u64) -> Result<Place, ZoneError>
+        requires { size ≤ 2 ^ 62 }
+        ensures gives { Gives (z_alloc (state self.old) size) frugal (state self.old) (zone_answer result)
+            (state self.new) }
+        ensures was_laid { Laid (state self.old) }
+        ensures laid { Laid (state self.new) };
+
+    /// Frees the block of the zone whose payload is at a place, and joins it with its free neighbours. A rover on a block
+    /// that was joined to another stands on the joined one.
+    ///
+    /// `NotZone` comes exactly where no block has its payload there, and `AlreadyFree` exactly where that block is free.
+    /// After either the store is as before, but for the event where events are kept.
+    fn z_free(&mut self, place: Place) -> Result<(), FreeError>
+        ensures gives { Answers (z_free (state self.old) place.0) (free_answer result) (state self.new) }
+        ensures was_laid { Laid (state self.old) }
+        ensures laid { Laid (state self.new) };
+
+    /// The bytes of a used block of the zone: its size less 28.
+    fn zone_bytes(&self, place: Place) -> &[u8]
+        requires { IsSome (zone_bytes (state self.now) place.0) }
+        ensures shows { zone_bytes (state self.now) place.0 ≡ Some result.now }
+        ensures laid { Laid (state self.now) };
+
+    /// The bytes of a used block of the zone, to be written.
+    fn zone_bytes_mut(&mut self, place: Place) -> &mut [u8]
+        requires { IsSome (zone_bytes (state self.old) place.0) }
+        ensures* writes_back { sem 𝓛 (Lends Self.row (Array byte 0) self.entry result
+            (zone_written self.old place.0)) }
+        ensures shows { zone_bytes (state self.old) place.0 ≡ Some result.now }
+        ensures laid { Laid (state self.old) };
+
+    /// The block of a number among those of the zone, from the lowest place upwards: `None` exactly past the last.
+    ///
+    /// The place is that of the header, the size counts the header and the end mark, there is no name and the user is 0.
+    fn zone_row(&self, number: u32) -> Option<BlockRow>
+        ensures row { row_answer result ≡ slice_get (zone_rows (state self.now)) number };
+
+    /// The place of the header of the block on which the rover stands, or 20 where it stands on the cap behind the last.
+    fn rover(&self) -> u32
+        ensures rover { result ≡ rover_place (state self.now).zone };
+
     /// The size of the arena.
     fn size(&self) -> u32
         ensures size { result ≡ (state self.now).size }
@@ -153,4 +204,8 @@ pub trait Store: Drop {
     /// The same of the temporary block.
     ghost temp_writes: { (s : Self) (bytes : List ℕ) →
         state (temp_written s bytes) ≡ with_temp_bytes (state s) bytes };
+
+    /// The same of a used block of the zone.
+    ghost zone_writes: { (s : Self) (place : ℕ) (bytes : List ℕ) →
+        state (zone_written s place bytes) ≡ with_zone_bytes (state s) place bytes };
 }
