@@ -1,9 +1,11 @@
-//! The words of a command text, and the buffer that command texts are taken from.
+//! The words of a command text, the buffer that command texts are taken from, and the aliases.
 #![tactic(auto)]
 
+mod aliases;
 mod buffer;
 mod words;
 
+pub use aliases::{AliasError, Aliases};
 pub use buffer::{CmdBuffer, Command, Overflow};
 pub use words::{Words, tokenize};
 
