@@ -1,4 +1,5 @@
 mod Examples
 pub mod Cuts
+pub mod FieldLaws
 pub mod NameLaws
 pub mod NumberLaws
