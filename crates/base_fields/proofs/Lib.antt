@@ -3,3 +3,4 @@ pub mod Cuts
 pub mod FieldLaws
 pub mod NameLaws
 pub mod NumberLaws
+pub mod TextLaws
