@@ -1,5 +1,6 @@
 -- What the definitions give at words that tell.
-use Rattle.std.proofs.Common.{◌≡◌, ℕ, List, [], ◌∷◌, replicate, Some, None, codes, refl}
+use Rattle.std.proofs.Common.{◌≡◌, ℕ, pos, negsuc, List, [], ◌∷◌, replicate, Some, None, codes, refl}
+use Rattle.base_fields.specs.Fields.{u16_in, i16_in, u32_in, i32_in, u32_bytes, with_field}
 use Rattle.base_fields.specs.Names.{is_game_name, lawful_name, base_of}
 use Rattle.base_fields.specs.Numbers.{is_number_word, number_of}
 
@@ -124,3 +125,26 @@ letter = refl
 sign : number_of (codes "+5") ≡ None
 unfolding is_number_word
 sign = refl
+
+-- numbers in bytes
+abbrev some_bytes : List ℕ
+some_bytes = 1 ∷ 2 ∷ 3 ∷ 4 ∷ 255 ∷ 255 ∷ 255 ∷ 128 ∷ []
+
+low_byte_first : u32_in some_bytes 0 ≡ 0x04030201
+unfolding u32_in
+low_byte_first = refl
+
+two_bytes : u16_in some_bytes 1 ≡ 0x0302
+unfolding u16_in
+two_bytes = refl
+
+all_ones : i16_in some_bytes 4 ≡ negsuc 0
+unfolding u16_in
+all_ones = refl
+
+below_the_sign : i32_in some_bytes 0 ≡ pos 0x04030201
+unfolding u32_in
+below_the_sign = refl
+
+put_in_the_middle : with_field some_bytes 2 (u32_bytes 0x0a0b0c0d) ≡ 1 ∷ 2 ∷ 13 ∷ 12 ∷ 11 ∷ 10 ∷ 255 ∷ 128 ∷ []
+put_in_the_middle = refl

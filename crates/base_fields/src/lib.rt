@@ -1,11 +1,14 @@
-//! What every crate above speaks of: the names of game files, the numbers of commands, and texts of fixed length.
+//! What every crate above speaks of: numbers in bytes, the names of game files, the numbers of commands, and texts of
+//! fixed length.
 #![tactic(auto)]
 
+mod fields;
 mod names;
 mod numbers;
 mod texts;
 
-pub use names::{BadName, GameName, game_name};
+pub use fields::{i16_at, i32_at, put_u32, u16_at, u32_at};
+pub use names::{BadName, GameName, game_name, has_step_up};
 pub use numbers::{BadNumber, decimal};
 pub use texts::before_zero;
 

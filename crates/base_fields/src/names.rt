@@ -81,8 +81,8 @@ fn has_only_name_bytes(word: &[u8]) -> bool
     word.iter().all(|byte| (32..=126).contains(byte) && *byte != b'\\' && *byte != b':')
 }
 
-// Whether a part between slashes is `..`.
-fn has_step_up(word: &[u8]) -> bool
+/// Whether one of the word's parts between slashes, the first and the last included, is `..`.
+pub fn has_step_up(word: &[u8]) -> bool
     ensures { result ≡ steps_up word.now }
 {
     word.split(|byte| *byte == b'/')

@@ -57,3 +57,23 @@ fn reads_decimals(rt: HostRuntime) {
         assert_eq!(rt; decimal(word.as_bytes()), want, "at {word:?}");
     }
 }
+
+#[test]
+fn reads_and_puts_numbers_in_bytes(rt: HostRuntime) {
+    let mut bytes = [0xfe, 0xff, 0x01, 0x80, 0x00, 0x00, 0x80];
+    let cases = [
+        (0, 0xfffe, -2, 0x8001_fffe, -0x7ffe_0002),
+        (1, 0x01ff, 0x01ff, 0x0080_01ff, 0x0080_01ff),
+        (2, 0x8001, -0x7fff, 0x0000_8001, 0x8001),
+        (3, 0x0080, 0x0080, 0x8000_0080, -0x7fff_ff80),
+    ];
+    for (at, short, signed_short, long, signed_long) in cases {
+        assert!(rt; at <= 3);
+        assert_eq!(rt; u16_at(&bytes, at), short, "at {at}");
+        assert_eq!(rt; i16_at(&bytes, at), signed_short, "at {at}");
+        assert_eq!(rt; u32_at(&bytes, at), long, "at {at}");
+        assert_eq!(rt; i32_at(&bytes, at), signed_long, "at {at}");
+    }
+    put_u32(&mut bytes, 2, 0x1234_5678);
+    assert_eq!(rt; bytes, [0xfe, 0xff, 0x78, 0x56, 0x34, 0x12, 0x80]);
+}

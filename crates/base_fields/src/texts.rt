@@ -1,10 +1,12 @@
 // Texts in fields of a fixed length.
-ghost use Rattle.std.specs.Prelude.{◌≡◌, ◌==◌, position};
+ghost use Rattle.std.specs.Prelude.{◌≡◌, ◌≢◌, ◌==◌, ◌≤◌, All, length, position};
 ghost use Rattle.base_fields.specs.Texts.{until_zero};
 
 /// The bytes before the first zero, or all of them where there is none.
 pub fn before_zero(bytes: &[u8]) -> &[u8]
-    ensures { result.now ≡ until_zero bytes.now }
+    ensures value { result.now ≡ until_zero bytes.now }
+    ensures text { All (λ c. c ≢ 0) result.now }
+    ensures sized { length result.now ≤ length bytes.now }
 {
     match first_zero(bytes) {
         Some(end) => &bytes[..end],

@@ -1,10 +1,9 @@
 // A folder of the host.
 ghost use Rattle.std.specs.Prelude.{◌≡◌, ◌≢◌, ◌↔◌, ◌<◌, ◌≤◌, ◌+◌, ◌^◌, ◌++◌, ◌∷◌, ℕ, [], None, IsTrue, IsSome, IfOk, IfSome, OnOk, length, take, string_bytes, string_capacity};
-ghost use Rattle.std.specs.List.{list_any};
 ghost use Rattle.std.specs.Io.KnownBytes.{Consumes};
-ghost use Rattle.base_fields.specs.Names.{steps_up};
 ghost use Rattle.quake_cli.specs.HostNames.{stays_inside, IsHostName};
 
+use base_fields::has_step_up;
 use outside_io::{Folder, FolderFailed};
 use std::alloc::{AllocError, Global};
 use std::fs::File;
@@ -144,14 +143,6 @@ fn stays_inside(name: &[u8]) -> bool
         && !name.contains(&0)
         && !name.starts_with(b"/")
         && !has_step_up(name)
-}
-
-// Whether a part between slashes is `..`.
-fn has_step_up(name: &[u8]) -> bool
-    ensures { result ≡ steps_up name.now }
-{
-    name.split(|byte| *byte == b'/')
-        .any(|part| part == b"..".as_slice())
 }
 
 // The length of the regular file at this path, or none where there is no such file.
