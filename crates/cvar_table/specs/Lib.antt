@@ -1,0 +1,2 @@
+pub mod Cvars
+pub mod Told
