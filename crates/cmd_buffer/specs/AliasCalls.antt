@@ -1,11 +1,9 @@
 -- What the calls of the aliases tell.
-use Rattle.std.specs.Prelude.{◌≡◌, ◌⊎◌, ℕ, Bool, false, List, Option, Some, None, Result, Ok, Err}
+use Rattle.std.specs.Prelude.{◌≡◌, ◌⊎◌, ℕ, Bool, false, Option, Some, None, Result, Ok, Err}
 use Rattle.mem_model.specs.Memory.{Memory}
 use Rattle.mem_model.specs.Operations.{z_alloc, z_free}
-use Rattle.mem_model.specs.Zone.{zone_bytes}
 use Rattle.mem_model.specs.declared.answers.ZoneError.TheVariants as zone_error
-use Rattle.zone_values.specs.Held.{IsNoneOf}
-use Rattle.cmd_buffer.specs.Aliases.{AliasSet, AliasRefusal, AliasRefusal.LongName, AliasRefusal.Full, aliases_of, places_of}
+use Rattle.cmd_buffer.specs.Aliases.{AliasSet, AliasRefusal, AliasRefusal.LongName, AliasRefusal.Full}
 use Rattle.cmd_buffer.specs.declared.aliases.AliasError.{AliasError}
 use Rattle.cmd_buffer.specs.declared.aliases.AliasError.TheVariants as alias_error
 
@@ -36,9 +34,3 @@ pub record RanOutSetting (frugal : Bool) (old new : Memory) (before newest : Opt
 abbrev pub GivesSet : AliasSet → Bool → (old : Memory) → (before : Option ℕ) → Option (Result (Unit {0}) AliasRefusal) → Memory → Option ℕ → Type 0
 GivesSet given frugal old before (Some reply) new newest = IsSet given reply new newest
 GivesSet given frugal old before None new newest = RanOutSetting frugal old new before newest
-
--- Used blocks that were none of the aliases' keep their bytes, and are none of the aliases' now.
-abbrev pub OthersStay : (old new : Memory) → (before newest : Option ℕ) → Type 0
-OthersStay old new before newest =
-    (place : ℕ) (bytes : List ℕ) → IsNoneOf place (places_of (aliases_of old before)) → zone_bytes old place ≡ Some bytes →
-    IsNoneOf place (places_of (aliases_of new newest)) × (zone_bytes new place ≡ Some bytes)

@@ -73,14 +73,14 @@ IsChain m first [] = first ≡ None
 IsChain m first (a ∷ older) = (first ≡ Some a.record_place) × ((next : Option ℕ) × IsRecord m a next × IsChain m next older)
 
 -- the places of all records and values
-abbrev pub places_of : List Alias → List ℕ
-places_of [] = []
-places_of (a ∷ older) = a.record_place ∷ a.value_place ∷ places_of older
+abbrev pub alias_places : List Alias → List ℕ
+alias_places [] = []
+alias_places (a ∷ older) = a.record_place ∷ a.value_place ∷ alias_places older
 
 -- The chain ends, and its records and values are in used blocks of the zone, each in its own.
 pub record HoldsAliases (m : Memory) (newest : Option ℕ) : Type 0 where
   pub chain : IsChain m newest (aliases_of m newest)
-  pub held : AreHeld m (places_of (aliases_of m newest))
+  pub held : AreHeld m (alias_places (aliases_of m newest))
 
 -- a name, and the value that its block holds
 pub record AliasText : Type 0 where

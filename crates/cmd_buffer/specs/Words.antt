@@ -1,6 +1,6 @@
 -- The words of a command text.
 use Prim.Native.Nat.{zero, suc}
-use Rattle.std.specs.Prelude.{ℕ, ◌+◌, Bool, ◌||◌, ◌==◌, nat_le, nat_eq, if◌then◌else◌, List, [], ◌∷◌, drop, Option, Some, None, codes, not}
+use Rattle.std.specs.Prelude.{ℕ, ◌+◌, Bool, ◌||◌, ◌==◌, nat_le, nat_eq, if◌then◌else◌, List, [], ◌∷◌, length, drop, Option, Some, None, codes, not}
 use Rattle.std.specs.List.{before_first, starts_with, position_or_len}
 use Rattle.cmd_buffer.specs.declared.words.Found.{Found}
 
@@ -64,6 +64,11 @@ first_words (suc n) text = word_and (first_word text) (λ rest. first_words n re
 -- the words of a text, of which the first 80 are kept
 unfoldable pub words_of : List ℕ → List (List ℕ)
 words_of text = first_words 80 text
+
+-- how many bytes the words have together
+abbrev pub letters_in : List (List ℕ) → ℕ
+letters_in [] = 0
+letters_in (word ∷ words) = length word + letters_in words
 
 -- what the code finds, as a word
 abbrev pub found_of : Found → Word

@@ -1,8 +1,9 @@
 // The aliases of the console.
 ghost use Rattle.std.specs.Prelude.{◌≡◌, ◌<◌, ◌^◌, Some, None, length, drop, slice_get, MatchOption, IfSome};
 ghost use Rattle.mem_model.specs.Laid.{Laid, IsText};
-ghost use Rattle.cmd_buffer.specs.Aliases.{HoldsAliases, set_alias, alias_texts, alias_value, older_than};
-ghost use Rattle.cmd_buffer.specs.AliasCalls.{set_told, GivesSet, OthersStay};
+ghost use Rattle.zone_values.specs.Held.{OthersStay};
+ghost use Rattle.cmd_buffer.specs.Aliases.{aliases_of, alias_places, HoldsAliases, set_alias, alias_texts, alias_value, older_than};
+ghost use Rattle.cmd_buffer.specs.AliasCalls.{set_told, GivesSet};
 
 use base_fields::{before_zero, put_u32, u32_at};
 use mem_model::{Place, Store, ZoneError};
@@ -59,7 +60,7 @@ impl Aliases {
         requires short { length value.now < 2 ^ 62 }
         ensures gives { GivesSet (set_alias (M.state store.old) self.old name.now value.now) M.frugal (M.state store.old) self.old (set_told result) (M.state store.new) self.new }
         ensures holds { HoldsAliases (M.state store.new) self.new }
-        ensures others { OthersStay (M.state store.old) (M.state store.new) self.old self.new }
+        ensures others { OthersStay (M.state store.old) (M.state store.new) (alias_places (aliases_of (M.state store.old) self.old)) (alias_places (aliases_of (M.state store.new) self.new)) }
         ensures laid { Laid (M.state store.new) }
     {
         unreachable!()

@@ -1,7 +1,8 @@
 // The words of a command text.
 ghost use Rattle.std.specs.Prelude.{◌≡◌, ◌≤◌, ◌==◌, not, length, drop, slice_index_or, [], option_map, position};
-ghost use Rattle.std.specs.List.{position_or_len};
-ghost use Rattle.cmd_buffer.specs.Words.{is_blank, is_single, ends_word, first_word, word_at_front, words_of, found_of};
+ghost use Rattle.std.specs.List.{position_or_len, AllByRecursion};
+ghost use Rattle.mem_model.specs.Laid.{IsText};
+ghost use Rattle.cmd_buffer.specs.Words.{is_blank, is_single, ends_word, first_word, word_at_front, words_of, letters_in, found_of};
 
 use std::marker::Model;
 
@@ -36,7 +37,10 @@ struct Found<'a> {
 /// Where a word would begin, `"` opens one that runs to the next `"` or the end, and may be empty, and
 /// `//` ends the text. Any other byte belongs to a word, those from 128 on and a `"` within it included.
 pub fn tokenize(text: &[u8]) -> Words<'_>
-    ensures { result ≡ words_of text.now }
+    ensures words { result ≡ words_of text.now }
+    ensures texts { IsText text.now → AllByRecursion IsText result }
+    ensures few { length result ≤ 80 }
+    ensures sized { letters_in result ≤ length text.now }
 {
     Words { text }
 }

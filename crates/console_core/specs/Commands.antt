@@ -12,6 +12,8 @@ use Rattle.mem_model.specs.Operations.{low_alloc, low_free, high_alloc, high_mar
 use Rattle.block_report.specs.Reports.{report_text}
 use Rattle.cmd_buffer.specs.Words.{words_of}
 use Rattle.cmd_buffer.specs.Buffer.{cut, kept}
+use Rattle.cmd_buffer.specs.Aliases.{AliasText, AliasSet, AliasRefusal, AliasRefusal.LongName, AliasRefusal.Full, alias_texts, alias_value, set_alias}
+use Rattle.cvar_table.specs.Cvars.{CvarSet, cvar_value, set_cvar}
 use Rattle.reply_pieces.specs.Pieces.{joined}
 use Rattle.console_core.specs.States.{State, Did, says, takes, loads}
 use Rattle.console_core.specs.Loads.{Load, Missing, NoRoom, At, Loading, load_low}
@@ -33,7 +35,8 @@ verb_of word = if str_eq_ignore_ascii_case word (codes "file") then Some verb.Fi
     else (if str_eq_ignore_ascii_case word (codes "reserve") then Some verb.Reserve
     else (if str_eq_ignore_ascii_case word (codes "video") then Some verb.Video
     else (if str_eq_ignore_ascii_case word (codes "level") then Some verb.Level
-    else (if str_eq_ignore_ascii_case word (codes "report") then Some verb.Report else None))))))))
+    else (if str_eq_ignore_ascii_case word (codes "report") then Some verb.Report
+    else (if str_eq_ignore_ascii_case word (codes "alias") then Some verb.Alias else None)))))))))
 
 -- each word followed by a space, and a newline at the end
 abbrev pub spaced : List (List ℕ) → List ℕ
@@ -131,15 +134,79 @@ answer_level s = says (record s { level = low_used s.memory }) Goes (joined (cod
 abbrev pub answer_report : State → Did
 answer_report s = says s Goes (report_text s.memory)
 
+-- a block of the zone of this size was refused
+abbrev pub full_text : ℕ → List ℕ
+full_text asked = joined (codes "zone full: " ∷ decimal asked ∷ codes " bytes\n" ∷ [])
+
+-- an alias as `alias` shows it
+abbrev pub alias_line : AliasText → List ℕ
+alias_line a = joined (a.name ∷ codes " : " ∷ a.value ∷ codes "\n" ∷ [])
+
+abbrev pub alias_lines : List AliasText → List ℕ
+alias_lines [] = []
+alias_lines (a ∷ older) = alias_line a ++ alias_lines older
+
+-- `alias` alone shows all aliases
+abbrev pub list_aliases : State → Did
+list_aliases s = says s Goes (codes "Current alias commands:\n" ++ alias_lines (alias_texts s.memory s.newest))
+
+abbrev pub alias_set_text : Result (Unit {0}) AliasRefusal → List ℕ
+alias_set_text (Ok done) = []
+alias_set_text (Err LongName) = joined (codes "Alias name is too long\n" ∷ [])
+alias_set_text (Err (Full asked)) = full_text asked
+
+abbrev pub alias_was_set : State → AliasSet → Did
+alias_was_set s given = takes (record s { memory = given.after; newest = given.newest }) (alias_set_text given.answer)
+
+-- An alias stands for the words from the third on, each followed by a space, and a newline.
+abbrev pub make_alias : State → List (List ℕ) → Did
+make_alias s words = alias_was_set s (set_alias s.memory s.newest (word_at 1 words) (spaced (drop 2 words)))
+
+abbrev pub answer_alias : State → List (List ℕ) → Did
+answer_alias s words = if length words == 1 then list_aliases s else make_alias s words
+
+-- the value of an alias goes in front of the buffer, where it fits
+abbrev pub answer_expansion : State → List ℕ → Did
+answer_expansion s value =
+    if fits_in value s.buffer then says (record s { buffer = value ++ s.buffer }) Goes [] else says s Goes (joined (codes "overflow\n" ∷ []))
+
+abbrev pub cvar_text : (name value : List ℕ) → List ℕ
+cvar_text name value = joined (codes "\"" ∷ name ∷ codes "\" is \"" ∷ value ∷ codes "\"\n" ∷ [])
+
+abbrev pub cvar_set_text : Result Bool ℕ → List ℕ
+cvar_set_text (Ok found) = []
+cvar_set_text (Err asked) = full_text asked
+
+abbrev pub cvar_was_set : State → CvarSet → Did
+cvar_was_set s given = takes (record s { memory = given.given.after; cvars = given.cvars }) (cvar_set_text given.given.answer)
+
+-- A cvar shows its value, or is set to the second word.
+abbrev pub answer_cvar : State → (name value : List ℕ) → List (List ℕ) → Did
+answer_cvar s name value words =
+    if length words == 1 then says s Goes (cvar_text name value) else cvar_was_set s (set_cvar s.memory s.cvars name (word_at 1 words))
+
 abbrev pub unknown_word : State → List ℕ → Did
 unknown_word s word = says s Goes (joined (codes "Unknown command \"" ∷ word ∷ codes "\"\n" ∷ []))
 
 abbrev pub unknown : State → List (List ℕ) → Did
 unknown s words = unknown_word s (word_at 0 words)
 
+-- a first word that is no command and no alias
+abbrev pub by_cvar : State → List (List ℕ) → Option (List ℕ) → Did
+by_cvar s words None = unknown s words
+by_cvar s words (Some value) = answer_cvar s (word_at 0 words) value words
+
+-- a first word that is no command: an alias in any case, else a cvar in exact case
+abbrev pub by_alias : State → List (List ℕ) → Option (List ℕ) → Did
+by_alias s words None = by_cvar s words (cvar_value s.memory s.cvars (word_at 0 words))
+by_alias s words (Some value) = answer_expansion s value
+
+abbrev pub by_name : State → List (List ℕ) → Did
+by_name s words = by_alias s words (alias_value s.memory s.newest (word_at 0 words))
+
 -- one arm for each command
 abbrev pub by_verb : List File → State → List (List ℕ) → Option Verb → Did
-by_verb files s words None = unknown s words
+by_verb files s words None = by_name s words
 by_verb files s words (Some verb.File) = answer_file files s words
 by_verb files s words (Some verb.Echo) = answer_echo s words
 by_verb files s words (Some verb.Exec) = answer_exec files s words
@@ -149,6 +216,7 @@ by_verb files s words (Some verb.Reserve) = answer_reserve s words
 by_verb files s words (Some verb.Video) = answer_video s words
 by_verb files s words (Some verb.Level) = answer_level s
 by_verb files s words (Some verb.Report) = answer_report s
+by_verb files s words (Some verb.Alias) = answer_alias s words
 
 -- a text without words does nothing
 abbrev pub by_words : List File → State → List (List ℕ) → Did

@@ -1,6 +1,7 @@
 pub mod Words
 pub mod Mounts
 pub mod States
+pub mod Holding
 pub mod Loads
 pub mod Commands
 pub mod Runs

@@ -2,14 +2,20 @@
 use Rattle.std.specs.Prelude.{◌≡◌, Bool, true, false, Result, Ok, Err}
 use Rattle.mem_model.specs.Memory.{Memory}
 use Rattle.console_core.specs.States.{State}
-use Rattle.console_core.specs.declared.session.Session.{Session}
+use Rattle.console_core.specs.declared.console.Console.{Console}
 use Rattle.console_core.specs.declared.ends.StepEnd.{StepEnd}
 use Rattle.console_core.specs.declared.ends.StepEnd.TheVariants.{Went, Quit, FolderFault, WriteFault, OutOfMemory}
 use Rattle.console_core.specs.declared.ends.Fault.{Fault}
 use Rattle.console_core.specs.declared.ends.Fault.TheVariants as fault
 
-abbrev pub state_of : {M F : Type 0} → (M → Memory) → Session M F → State
-state_of state session = record { memory = state session.store; buffer = session.buffer; level = session.level }
+abbrev pub state_of : {M F : Type 0} → (M → Memory) → Console M F → State
+state_of state console = record {
+  memory = state console.store;
+  buffer = console.buffer;
+  level = console.level;
+  cvars = console.cvars;
+  newest = console.aliases;
+}
 
 -- what a step's end tells: whether `quit` was executed, or the fault
 abbrev pub told_end : StepEnd → Result Bool Fault

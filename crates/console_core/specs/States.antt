@@ -1,22 +1,44 @@
 -- The state of a console, and what a command does to it.
-use Rattle.std.specs.Prelude.{◌≡◌, ◌≤◌, ℕ, List, [], Bool, true, false, Option, Result, Ok, Err, IfErr}
+use Rattle.std.specs.Prelude.{◌≡◌, ◌≤◌, ℕ, List, [], Bool, true, false, Option, None, Result, Ok, Err, IfErr}
 use Rattle.outside_io.specs.Causes.{Rose}
 use Rattle.outside_io.specs.Streams.{Adds, AddsFront}
-use Rattle.mem_model.specs.Memory.{Memory, low_used}
+use Rattle.mem_model.specs.Memory.{Memory, low_used, new_memory}
+use Rattle.cvar_table.specs.Cvars.{Cvar, created, defaults}
 use Rattle.console_core.specs.declared.ends.Next.{Next}
 use Rattle.console_core.specs.declared.ends.Next.TheVariants.{Goes}
 use Rattle.console_core.specs.declared.ends.Fault.{Fault}
 use Rattle.console_core.specs.declared.ends.Fault.TheVariants as fault
 
--- the memory, the bytes of the command buffer, and the host level: a mark of the low hunk
+-- The memory; the bytes of the command buffer; the host level, a mark of the low hunk; the cvars; and the record of the newest
+-- alias. The values of the cvars, and the aliases, are read from the memory.
 pub record State : Type 0 where
   pub memory : Memory
   pub buffer : List ℕ
   pub level : ℕ
+  pub cvars : List Cvar
+  pub newest : Option ℕ
 
--- At the start the buffer is empty, and the host level is where the low hunk ends.
+-- a memory that was just created, with a zone of at least 4096 bytes and 768 users of the cache
+pub record IsNew (m : Memory) : Type 0 where
+  pub size : ℕ
+  pub zone : ℕ
+  pub event_room : ℕ
+  pub is : m ≡ new_memory size zone 768 event_room
+  pub large : 4096 ≤ zone
+
+abbrev pub cvars_in : Result (List Cvar) ℕ → List Cvar
+cvars_in (Ok cvars) = cvars
+cvars_in (Err asked) = []
+
+-- At the start the cvars have their defaults, there is no alias, the buffer is empty, and the host level is where the low hunk ends.
 abbrev pub started : Memory → State
-started m = record { memory = m; buffer = []; level = low_used m }
+started m = record {
+  memory = (created m defaults).after;
+  buffer = [];
+  level = low_used m;
+  cvars = cvars_in (created m defaults).answer;
+  newest = None;
+}
 
 -- what a command prints, whether it asked for a file, and whether it asked for memory
 pub record Reply : Type 0 where

@@ -1,9 +1,11 @@
 //! The console: reads a script, and runs its lines as frames of commands.
 #![tactic(auto)]
 
+mod console;
 mod ends;
 mod load;
 mod paths;
+mod replies;
 mod script;
 mod session;
 mod status;

@@ -56,6 +56,7 @@ fn load_into<M: Store, F: Folder>(
     ensures told { IfSome (told_files F.files paths.old) (λ files. Loads (load_into files (M.state store.old) name.now block_name.now) result (M.state store.new)) }
     ensures there { IfOk result (λ loaded. IsSomeAnd (low_bytes (M.state store.new) loaded.place.0) (λ bytes. loaded.length ≤ length bytes)) }
     ensures laid { Laid (M.state store.old) → Laid (M.state store.new) }
+    ensures zone { (M.state store.new).zone ≡ (M.state store.old).zone }
     ensures files { told_files F.files paths.new ≡ told_files F.files paths.old }
     ensures faults { count_of F.folder_faults paths.old ≤ count_of F.folder_faults paths.new }
     ensures fault { IsErrOf result LoadError.FolderFault → Rose (count_of F.folder_faults paths.old) (count_of F.folder_faults paths.new) }
@@ -87,6 +88,7 @@ pub fn load<M: Store, F: Folder>(
     ensures told { IfSome (told_files F.files paths.old) (λ files. Loads (load_low files (M.state store.old) name.now) result (M.state store.new)) }
     ensures there { IfOk result (λ loaded. IsSomeAnd (low_bytes (M.state store.new) loaded.place.0) (λ bytes. loaded.length ≤ length bytes)) }
     ensures laid { Laid (M.state store.old) → Laid (M.state store.new) }
+    ensures zone { (M.state store.new).zone ≡ (M.state store.old).zone }
     ensures files { told_files F.files paths.new ≡ told_files F.files paths.old }
     ensures faults { count_of F.folder_faults paths.old ≤ count_of F.folder_faults paths.new }
     ensures fault { IsErrOf result LoadError.FolderFault → Rose (count_of F.folder_faults paths.old) (count_of F.folder_faults paths.new) }

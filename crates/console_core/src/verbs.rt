@@ -15,6 +15,7 @@ pub enum Verb {
     Video,
     Level,
     Report,
+    Alias,
 }
 
 // Whether the two are the same but for the case of their letters.
@@ -54,6 +55,9 @@ pub fn find_verb(word: &[u8]) -> Option<Verb>
     }
     if is_same(word, b"report") {
         return Some(Verb::Report);
+    }
+    if is_same(word, b"alias") {
+        return Some(Verb::Alias);
     }
     None
 }

@@ -1,5 +1,5 @@
 -- Places of zone blocks that someone keeps: each has its own.
-use Rattle.std.specs.Prelude.{ℕ, ◌≢◌, List, [], ◌∷◌, IsSome}
+use Rattle.std.specs.Prelude.{ℕ, ◌≡◌, ◌≢◌, List, [], ◌∷◌, Some, IsSome}
 use Rattle.std.specs.List.{AllByRecursion}
 use Rattle.mem_model.specs.Memory.{Memory}
 use Rattle.mem_model.specs.Zone.{zone_bytes}
@@ -21,3 +21,8 @@ IsUsed m place = IsSome (zone_bytes m place)
 pub record AreHeld (m : Memory) (places : List ℕ) : Type 0 where
   pub used : AllByRecursion (IsUsed m) places
   pub apart : AreApart places
+
+-- Used blocks at none of the places keep their bytes, and are at none of the places that are kept now.
+abbrev pub OthersStay : (old new : Memory) → (before now : List ℕ) → Type 0
+OthersStay old new before now =
+    (place : ℕ) (bytes : List ℕ) → IsNoneOf place before → zone_bytes old place ≡ Some bytes → IsNoneOf place now × (zone_bytes new place ≡ Some bytes)

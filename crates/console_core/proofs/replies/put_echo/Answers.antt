@@ -9,7 +9,7 @@ use Rattle.console_core.specs.Commands.{spaced}
 use Rattle.console_core.specs.declared.ends.Next.{Next}
 use Rattle.console_core.specs.declared.ends.Next.TheVariants.{Goes}
 use Rattle.console_core.specs.declared.ends.Fault.{Fault}
-use Rattle.console_core.proofs.session.put_echo.Goals as goal
+use Rattle.console_core.proofs.replies.put_echo.Goals as goal
 
 module _ (words : List (List ℕ)) (i : ℕ) (held : List ℕ) (start mid now : Option (List ℕ)) (so_far : PutSoFar (spaced (drop 1 words)) start (held ++ spaced (drop i words)) mid) where
   here : i < length words → PutSoFar (spaced (drop 1 words)) start (held ++ ((get_or words i [] ++ 32 ∷ []) ++ spaced (drop (i + 1) words))) mid

@@ -1,7 +1,7 @@
 use Rattle.std.proofs.Common.{◌≤◌, ◌++◌, drop}
 use Rattle.outside_io.proofs.Puts.{PutSoFar}
 use Rattle.console_core.specs.Commands.{spaced}
-use Rattle.console_core.proofs.session.put_echo.Given as goal
+use Rattle.console_core.proofs.replies.put_echo.Given as goal
 
 abbrev pub invariant-loop-number : goal.invariant-loop-number
 invariant-loop-number g l = record {

@@ -1,7 +1,7 @@
 use Rattle.std.proofs.Common.{◌++◌, ◌∷◌, [], refl}
 use Rattle.outside_io.proofs.Puts.{front_put}
 use Rattle.reply_pieces.proofs.Holding.{so_far_held}
-use Rattle.console_core.proofs.session.end_echo.Goals as goal
+use Rattle.console_core.proofs.replies.end_echo.Goals as goal
 
 pub returns-in-Err-finish-clause-replies : goal.returns-in-Err-finish-clause-replies
 returns-in-Err-finish-clause-replies g c =

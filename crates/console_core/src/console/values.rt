@@ -1,0 +1,163 @@
+// The commands on aliases and cvars, and what a first word means that is no command.
+ghost use Rattle.std.specs.Prelude.{◌≡◌, IfSome, drop};
+ghost use Rattle.console_core.specs.States.{Follows, HasCauses};
+ghost use Rattle.console_core.specs.Holding.{Holds, AreShort};
+ghost use Rattle.console_core.specs.Mounts.{told_files, count_of};
+ghost use Rattle.console_core.specs.Commands.{list_aliases, make_alias, answer_alias, cvar_was_set, by_cvar, by_name, unknown, unknown_word, word_at, spaced};
+ghost use Rattle.cvar_table.specs.Cvars.{set_cvar, cvar_value};
+ghost use Rattle.console_core.specs.Sessions.{state_of};
+
+use crate::console::Console;
+use crate::ends::{Fault, Next};
+use crate::replies::{put_aliases, put_cvar, put_full, put_inserted, put_long_name, reply};
+use arrayvec::ArrayVec;
+use cmd_buffer::{AliasError, Words};
+use mem_model::{Store, ZoneError};
+use outside_io::{Folder, Sink};
+use reply_pieces::Piece;
+
+// A value has the words of a command, which have 1023 bytes at most, a space for each of 80, and a newline.
+const VALUE: usize = 1104;
+
+// The words from the third on, each followed by a space, and a newline.
+fn value_of(words: &Words<'_>) -> ArrayVec<u8, VALUE>
+    requires { AreShort words.now }
+    ensures { result.items ≡ spaced (drop 2 words.now) }
+{
+    let mut value = ArrayVec::new();
+    for number in 2..words.count() {
+        value.try_extend_from_slice(words.word(number)).unwrap();
+        value.push(b' ');
+    }
+    value.push(b'\n');
+    value
+}
+
+impl<M: Store, F: Folder> Console<M, F> {
+    // Shows the aliases.
+    fn list_aliases<O: Sink>(&mut self, out: &mut O) -> Result<Next, Fault>
+        requires holds { Holds (state_of M.state self.old) }
+        ensures told { IfSome (told_files F.files self.old.paths) (λ files. Follows (list_aliases (state_of M.state self.old)) result (state_of M.state self.new) (O.got out.old) (O.got out.new)) }
+        ensures files { told_files F.files self.new.paths ≡ told_files F.files self.old.paths }
+        ensures holds { Holds (state_of M.state self.new) }
+        ensures causes { HasCauses M.frugal (count_of F.folder_faults self.old.paths) (count_of F.folder_faults self.new.paths) (O.sink_faults out.old) (O.sink_faults out.new) result }
+    {
+        put_aliases(&self.store, &self.aliases, out)
+    }
+
+    // Sets the alias of the second word to those that follow it.
+    fn make_alias<O: Sink>(&mut self, words: &Words<'_>, out: &mut O) -> Result<Next, Fault>
+        requires holds { Holds (state_of M.state self.old) }
+        requires short { AreShort words.now }
+        ensures told { IfSome (told_files F.files self.old.paths) (λ files. Follows (make_alias (state_of M.state self.old) words.now) result (state_of M.state self.new) (O.got out.old) (O.got out.new)) }
+        ensures files { told_files F.files self.new.paths ≡ told_files F.files self.old.paths }
+        ensures holds { Holds (state_of M.state self.new) }
+        ensures causes { HasCauses M.frugal (count_of F.folder_faults self.old.paths) (count_of F.folder_faults self.new.paths) (O.sink_faults out.old) (O.sink_faults out.new) result }
+    {
+        let value = value_of(words);
+        match self
+            .aliases
+            .set(&mut self.store, words.word(1), value.as_slice())
+        {
+            Ok(()) => Ok(Next::Goes),
+            Err(AliasError::LongName) => put_long_name(out),
+            Err(AliasError::Zone(ZoneError::Full { asked })) => put_full(out, asked),
+            Err(AliasError::Zone(ZoneError::OutOfMemory)) => Err(Fault::Memory),
+        }
+    }
+
+    pub(super) fn alias<O: Sink>(&mut self, words: &Words<'_>, out: &mut O) -> Result<Next, Fault>
+        requires holds { Holds (state_of M.state self.old) }
+        requires short { AreShort words.now }
+        ensures told { IfSome (told_files F.files self.old.paths) (λ files. Follows (answer_alias (state_of M.state self.old) words.now) result (state_of M.state self.new) (O.got out.old) (O.got out.new)) }
+        ensures files { told_files F.files self.new.paths ≡ told_files F.files self.old.paths }
+        ensures holds { Holds (state_of M.state self.new) }
+        ensures causes { HasCauses M.frugal (count_of F.folder_faults self.old.paths) (count_of F.folder_faults self.new.paths) (O.sink_faults out.old) (O.sink_faults out.new) result }
+    {
+        if words.count() == 1 {
+            return self.list_aliases(out);
+        }
+        self.make_alias(words, out)
+    }
+
+    // Sets the cvar of the first word to the second.
+    fn set_cvar<O: Sink>(&mut self, words: &Words<'_>, out: &mut O) -> Result<Next, Fault>
+        requires holds { Holds (state_of M.state self.old) }
+        requires short { AreShort words.now }
+        ensures told { IfSome (told_files F.files self.old.paths) (λ files. Follows (cvar_was_set (state_of M.state self.old) (set_cvar (M.state self.old.store) self.old.cvars (word_at 0 words.now) (word_at 1 words.now))) result (state_of M.state self.new) (O.got out.old) (O.got out.new)) }
+        ensures files { told_files F.files self.new.paths ≡ told_files F.files self.old.paths }
+        ensures holds { Holds (state_of M.state self.new) }
+        ensures causes { HasCauses M.frugal (count_of F.folder_faults self.old.paths) (count_of F.folder_faults self.new.paths) (O.sink_faults out.old) (O.sink_faults out.new) result }
+    {
+        match self
+            .cvars
+            .set(&mut self.store, words.word(0), words.word(1))
+        {
+            Ok(_) => Ok(Next::Goes),
+            Err(ZoneError::Full { asked }) => put_full(out, asked),
+            Err(ZoneError::OutOfMemory) => Err(Fault::Memory),
+        }
+    }
+
+    // Shows or sets the cvar of the first word.
+    fn run_cvar<O: Sink>(&mut self, words: &Words<'_>, out: &mut O) -> Result<Next, Fault>
+        requires holds { Holds (state_of M.state self.old) }
+        requires short { AreShort words.now }
+        ensures told { IfSome (told_files F.files self.old.paths) (λ files. Follows (by_cvar (state_of M.state self.old) words.now (cvar_value (M.state self.old.store) self.old.cvars (word_at 0 words.now))) result (state_of M.state self.new) (O.got out.old) (O.got out.new)) }
+        ensures files { told_files F.files self.new.paths ≡ told_files F.files self.old.paths }
+        ensures holds { Holds (state_of M.state self.new) }
+        ensures causes { HasCauses M.frugal (count_of F.folder_faults self.old.paths) (count_of F.folder_faults self.new.paths) (O.sink_faults out.old) (O.sink_faults out.new) result }
+    {
+        match self.cvars.get(&self.store, words.word(0)) {
+            None => self.unknown(words, out),
+            Some(value) if words.count() == 1 => put_cvar(out, words.word(0), value),
+            Some(_) => self.set_cvar(words, out),
+        }
+    }
+
+    // The first word is no command: it may be an alias or a cvar.
+    pub(super) fn run_name<O: Sink>(&mut self, words: &Words<'_>, out: &mut O) -> Result<Next, Fault>
+        requires holds { Holds (state_of M.state self.old) }
+        requires short { AreShort words.now }
+        ensures told { IfSome (told_files F.files self.old.paths) (λ files. Follows (by_name (state_of M.state self.old) words.now) result (state_of M.state self.new) (O.got out.old) (O.got out.new)) }
+        ensures files { told_files F.files self.new.paths ≡ told_files F.files self.old.paths }
+        ensures holds { Holds (state_of M.state self.new) }
+        ensures causes { HasCauses M.frugal (count_of F.folder_faults self.old.paths) (count_of F.folder_faults self.new.paths) (O.sink_faults out.old) (O.sink_faults out.new) result }
+    {
+        match self.aliases.find(&self.store, words.word(0)) {
+            Some(value) => {
+                let inserted = self.buffer.insert(value).is_ok();
+                put_inserted(out, inserted)
+            }
+            None => self.run_cvar(words, out),
+        }
+    }
+
+    fn unknown_word<O: Sink>(&mut self, word: &[u8], out: &mut O) -> Result<Next, Fault>
+        requires holds { Holds (state_of M.state self.old) }
+        ensures told { IfSome (told_files F.files self.old.paths) (λ files. Follows (unknown_word (state_of M.state self.old) word.now) result (state_of M.state self.new) (O.got out.old) (O.got out.new)) }
+        ensures files { told_files F.files self.new.paths ≡ told_files F.files self.old.paths }
+        ensures holds { Holds (state_of M.state self.new) }
+        ensures causes { HasCauses M.frugal (count_of F.folder_faults self.old.paths) (count_of F.folder_faults self.new.paths) (O.sink_faults out.old) (O.sink_faults out.new) result }
+    {
+        reply(
+            out,
+            Next::Goes,
+            &[
+                Piece::Text(b"Unknown command \""),
+                Piece::Text(word),
+                Piece::Text(b"\"\n"),
+            ],
+        )
+    }
+
+    fn unknown<O: Sink>(&mut self, words: &Words<'_>, out: &mut O) -> Result<Next, Fault>
+        requires holds { Holds (state_of M.state self.old) }
+        ensures told { IfSome (told_files F.files self.old.paths) (λ files. Follows (unknown (state_of M.state self.old) words.now) result (state_of M.state self.new) (O.got out.old) (O.got out.new)) }
+        ensures files { told_files F.files self.new.paths ≡ told_files F.files self.old.paths }
+        ensures holds { Holds (state_of M.state self.new) }
+        ensures causes { HasCauses M.frugal (count_of F.folder_faults self.old.paths) (count_of F.folder_faults self.new.paths) (O.sink_faults out.old) (O.sink_faults out.new) result }
+    {
+        self.unknown_word(words.word(0), out)
+    }
+}
