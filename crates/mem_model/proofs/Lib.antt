@@ -12,4 +12,6 @@ pub mod Ends
 pub mod ZoneLists
 pub mod ZoneLaying
 pub mod ZoneBytes
+pub mod Untouched
+pub mod ZoneApart
 pub mod ZoneLaws

@@ -1,27 +1,25 @@
 -- Laws of the zone's operations, over the definitions alone: what callers of a store need.
-use Rattle.std.proofs.Common.{◌≡◌, ◌≢◌, ℕ, suc, ◌+◌, ◌-◌, ◌<◌, ◌≤◌, List, [], ◌∷◌, ◌++◌, Option, Some, None, Result, Ok, Err, Bool, true, false, ltb, cond, length, take, drop, refl, sym, ap, ◌∙◌, arith, replicate, ◌⊎◌, inl, inr, if◌then◌else◌, subst}
+use Rattle.std.proofs.Common.{◌≡◌, ◌≢◌, ℕ, suc, ◌+◌, ◌-◌, ◌<◌, ◌≤◌, List, [], ◌∷◌, ◌++◌, Option, Some, None, Result, Ok, Err, Bool, true, false, length, take, drop, refl, sym, ap, ◌∙◌, arith, replicate, ◌⊎◌, inl, inr, if◌then◌else◌, subst}
 use Rattle.std.specs.Prelude.{IsSome, ◌^◌, slice_get}
 use Rattle.std.specs.List.{AllByRecursion}
 use Rattle.std.proofs.lemmas.List.{length-replicate, append_assoc}
-use Rattle.mem_model.specs.Event.{Event, FreeRefusal, FreeRefusal.AlreadyFree}
-use Rattle.mem_model.specs.Blocks.{HunkBlock, ZoneBlock}
-use Rattle.mem_model.specs.Memory.{Memory, Zone, low_used, size_of}
+use Rattle.std.proofs.lemmas.Bool.{cases_eq}
+use Rattle.mem_model.specs.Event.{FreeRefusal, FreeRefusal.AlreadyFree}
+use Rattle.mem_model.specs.Blocks.{ZoneBlock}
+use Rattle.mem_model.specs.Memory.{Memory, Zone, low_used}
 use Rattle.mem_model.specs.Places.{zone_need}
+use Rattle.mem_model.specs.Hunk.{over}
 use Rattle.mem_model.specs.Zone.{used_block, taken, replaced, taken_at, with_taken, with_free, chosen, place_at, position_of, used_bytes_from, zone_bytes, with_zone_bytes}
-use Rattle.mem_model.specs.Answer.{Answered, with_event}
+use Rattle.mem_model.specs.Answer.{Answered}
 use Rattle.mem_model.specs.Operations.{z_alloc, z_taken, z_free, z_freed, z_freed_at}
+use Rattle.mem_model.specs.Apart.{NoneIs, AreUsed}
 use Rattle.mem_model.specs.Laid.{Laid, IsZone, IsZoneBlock, IsMultiple, first_size}
 use Rattle.mem_model.proofs.Laying.{over_same}
 use Rattle.mem_model.proofs.ZoneLists.{parted, all-parts, chosen_fits}
 use Rattle.mem_model.proofs.ZoneLaying.{taken_is, Laid-z_alloc, Laid-z_free, Laid-with_zone_bytes}
+use Rattle.mem_model.proofs.Untouched.{size-z_alloc, low-z_alloc, high-z_alloc, temp-z_alloc, low_bytes-z_alloc, temp_bytes-z_alloc, size-z_free, low-z_free, high-z_free, temp-z_free, low_bytes-z_free, temp_bytes-z_free, size-with_zone_bytes, low-with_zone_bytes, high-with_zone_bytes, temp-with_zone_bytes, low_bytes-with_zone_bytes, temp_bytes-with_zone_bytes, zone-with_event, zone-low_alloc, zone-low_free, zone-without_temp, zone-high_alloc, zone-high_free, zone-high_mark, zone-temp_alloc, zone-with_low_bytes, zone-with_temp_bytes, zone_bytes-same, zone_bytes-low_alloc, zone_bytes-low_free, zone_bytes-without_temp, zone_bytes-high_alloc, zone_bytes-high_free, zone_bytes-high_mark, zone_bytes-temp_alloc, zone_bytes-with_low_bytes, zone_bytes-with_temp_bytes}
+use Rattle.mem_model.proofs.ZoneApart.{first_below, places-small}
 use Rattle.mem_model.proofs.ZoneBytes.{taken-bytes, with_free-bytes, at-bytes, place_above, inside-bytes, position_used, position_place, written-bytes, elsewhere-bytes}
-
--- an event is no other part of the memory
-event_only : (m : Memory) (event : Event) → with_event m event ≡ record m { events = (with_event m event).events }
-event_only m event = elim (ltb (length m.events) m.event_room) as (λ t. cond t (record m { events = m.events ++ event ∷ [] }) m ≡ record m { events = (cond t (record m { events = m.events ++ event ∷ [] }) m).events }) [ true ↦ refl | false ↦ refl ]
-
-zone-with_event : (m : Memory) (event : Event) → (with_event m event).zone ≡ m.zone
-zone-with_event m event = ap (λ (n : Memory). n.zone) (event_only m event)
 
 -- What an allocation in the zone gives where it isn't refused.
 record IsGrant (z after : Zone) (need place : ℕ) : Type 0 where
@@ -196,10 +194,6 @@ pub zone_bytes-elsewhere : (m : Memory) (place other : ℕ) (bytes : List ℕ) �
 unfolding zone_bytes with_zone_bytes
 zone_bytes-elsewhere m place other bytes apart = elsewhere-bytes 48 m.zone.blocks place other bytes apart
 
-first_below : (low : List HunkBlock) → first_size low ≤ size_of low
-first_below [] = omega arith
-first_below (b ∷ bs) = omega arith
-
 -- The bytes of the zone lie in the zone's block, behind its headers and that of the first block.
 pub zone_bytes-inside : (m : Memory) (place : ℕ) (bytes : List ℕ) → Laid m → zone_bytes m place ≡ Some bytes → (72 ≤ place) × (place + length bytes ≤ low_used m)
 unfolding zone_bytes
@@ -211,5 +205,65 @@ pub zone_place-small : (m : Memory) (place : ℕ) (bytes : List ℕ) → Laid m 
 unfolding zone_bytes
 zone_place-small m place bytes laid h = omega (arith, inside-bytes 48 m.zone.blocks place bytes laid.zone.blocks h, laid.zone.tiles, first_below m.low, laid.inside, laid.small)
 
+-- A freed place that is refused leaves the zone.
+refused_at : (m : Memory) (place i : ℕ) (o : Option ZoneBlock) (told : FreeRefusal) → (z_freed_at m place i o).answer ≡ Err told → (z_freed_at m place i o).after.zone ≡ m.zone
+unfolding freed_given
+refused_at m place i None told h = refl
+refused_at m place i (Some b) told h = elim b.used as (λ used. (freed_given m place i used).answer ≡ Err told → (freed_given m place i used).after.zone ≡ m.zone) [
+  | true ↦ λ e. absurd (cc)
+  | false ↦ λ e. refl
+] h
+
+refused_free : (m : Memory) (place : ℕ) (o : Option ℕ) (told : FreeRefusal) → (z_freed m place o).answer ≡ Err told → (z_freed m place o).after.zone ≡ m.zone
+refused_free m place None told h = refl
+refused_free m place (Some i) told h = refused_at m place i (slice_get m.zone.blocks i) told h
+
+-- A refused freeing leaves the zone.
+pub z_free-refusal : (m : Memory) (place : ℕ) (told : FreeRefusal) → (z_free m place).answer ≡ Err told → (z_free m place).after.zone ≡ m.zone
+unfolding z_free
+z_free-refusal m place told h = zone-with_event _ _ ∙ refused_free m place (position_of m.zone.blocks place) told h
+
+-- A used block stays used where one is written.
+pub some-with_zone_bytes : (m : Memory) (place other : ℕ) (bytes : List ℕ) → IsSome (zone_bytes m other) → IsSome (zone_bytes (with_zone_bytes m place bytes) other)
+unfolding zone_bytes with_zone_bytes
+some-with_zone_bytes m place other bytes h =
+    let some = of_some (zone_bytes m other) h in
+    elim (cases_eq other place) [
+      | inl same ↦
+          let here : used_bytes_from 48 m.zone.blocks place ≡ Some some.0 = ap (used_bytes_from 48 m.zone.blocks) (sym same) ∙ some.1 in
+          is_some_of _ (over some.0 bytes) (ap (used_bytes_from 48 _) same ∙ written-bytes 48 m.zone.blocks place some.0 bytes here)
+      | inr apart ↦ is_some_of _ some.0 (elsewhere-bytes 48 m.zone.blocks place other bytes apart ∙ some.1)
+    ]
+
+-- A new block's place is none of those that are in use.
+pub NoneIs-z_new : (m : Memory) (size place : ℕ) (places : List ℕ) → Laid m → (z_alloc m size).answer ≡ Ok place → AreUsed m places → NoneIs place places
+NoneIs-z_new m size place [] laid h used = tt
+NoneIs-z_new m size place (other ∷ others) laid h used =
+    let some = of_some (zone_bytes m other) used.0 in
+    (zone_place_apart m size place other some.0 laid h some.1, NoneIs-z_new m size place others laid h used.1)
+
+-- Used places stay in use at an allocation,
+pub AreUsed-z_alloc : (m : Memory) (size : ℕ) (places : List ℕ) → Laid m → AreUsed m places → AreUsed (z_alloc m size).after places
+AreUsed-z_alloc m size [] laid used = tt
+AreUsed-z_alloc m size (place ∷ places) laid used = (some-z_alloc m size place laid used.0, AreUsed-z_alloc m size places laid used.1)
+
+-- at a freeing of another,
+pub AreUsed-z_free : (m : Memory) (place : ℕ) (places : List ℕ) → Laid m → NoneIs place places → AreUsed m places → AreUsed (z_free m place).after places
+AreUsed-z_free m place [] laid none used = tt
+AreUsed-z_free m place (other ∷ others) laid none used = (some-z_free m place other laid none.0 used.0, AreUsed-z_free m place others laid none.1 used.1)
+
+-- at a write,
+pub AreUsed-with_zone_bytes : (m : Memory) (place : ℕ) (bytes : List ℕ) (places : List ℕ) → AreUsed m places → AreUsed (with_zone_bytes m place bytes) places
+AreUsed-with_zone_bytes m place bytes [] used = tt
+AreUsed-with_zone_bytes m place bytes (other ∷ others) used = (some-with_zone_bytes m place other bytes used.0, AreUsed-with_zone_bytes m place bytes others used.1)
+
+-- and where the zone is the same.
+pub AreUsed-same : (m n : Memory) (places : List ℕ) → n.zone ≡ m.zone → AreUsed m places → AreUsed n places
+AreUsed-same m n [] same used = tt
+AreUsed-same m n (place ∷ places) same used = (subst (λ o. IsSome o) (zone_bytes-same m n place (sym same)) used.0, AreUsed-same m n places same used.1)
+
 -- for callers: `#[tactic(auto, using(mem_model::proofs::ZoneLaws::zone_laws))]`
-pub ruleset zone_laws = (Laid-z_alloc, Laid-z_free, Laid-with_zone_bytes, zone_bytes-z_alloc, some-z_alloc, some-z_new, length-z_new, zone_place_apart, z_free-used, zone_bytes-z_free, some-z_free, zone_bytes-written, zone_bytes-elsewhere, zone_place-small)
+pub ruleset zone_laws = (Laid-z_alloc, Laid-z_free, Laid-with_zone_bytes, zone_bytes-z_alloc, some-z_alloc, some-z_new, length-z_new, zone_place_apart, z_free-used, zone_bytes-z_free, some-z_free, zone_bytes-written, zone_bytes-elsewhere, some-with_zone_bytes, zone_place-small, NoneIs-z_new, AreUsed-z_alloc, AreUsed-z_free, AreUsed-with_zone_bytes, places-small)
+
+-- for callers of the hunks and the zone: what each leaves of the other
+pub ruleset apart_laws = (size-z_alloc, low-z_alloc, high-z_alloc, temp-z_alloc, low_bytes-z_alloc, temp_bytes-z_alloc, size-z_free, low-z_free, high-z_free, temp-z_free, low_bytes-z_free, temp_bytes-z_free, size-with_zone_bytes, low-with_zone_bytes, high-with_zone_bytes, temp-with_zone_bytes, low_bytes-with_zone_bytes, temp_bytes-with_zone_bytes, zone-low_alloc, zone-low_free, zone-without_temp, zone-high_alloc, zone-high_free, zone-high_mark, zone-temp_alloc, zone-with_low_bytes, zone-with_temp_bytes, zone_bytes-low_alloc, zone_bytes-low_free, zone_bytes-without_temp, zone_bytes-high_alloc, zone_bytes-high_free, zone_bytes-high_mark, zone_bytes-temp_alloc, zone_bytes-with_low_bytes, zone_bytes-with_temp_bytes)
