@@ -1,0 +1,4 @@
+mod Assumed
+mod Writing
+mod Putting
+pub mod ValueLaws
