@@ -2,3 +2,4 @@ mod Assumed
 mod Writing
 mod Putting
 pub mod ValueLaws
+pub mod HeldLaws
