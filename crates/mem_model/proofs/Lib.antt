@@ -11,3 +11,7 @@ pub mod Newest
 pub mod Ends
 pub mod ZoneLists
 pub mod ZoneLaying
+pub mod ZoneBytes
+pub mod Untouched
+pub mod ZoneApart
+pub mod ZoneLaws

@@ -70,20 +70,22 @@ pub IsZoneBlock-used : (size : ℕ) → 32 ≤ size → IsMultiple 8 size → Is
 IsZoneBlock-used size least whole = record { least = least; whole = whole; bytes = length-replicate (size - 28) 0 }
 
 -- What stands in the place of a free block that is taken.
-pub record IsTaken (b : ZoneBlock) (news : List ZoneBlock) : Type 0 where
+pub record IsTaken (b : ZoneBlock) (need : ℕ) (news : List ZoneBlock) : Type 0 where
   pub size : ℕ
+  pub large : need ≤ size
   pub others : List ZoneBlock
   pub first : news ≡ used_block size ∷ others
   pub blocks : AllByRecursion IsZoneBlock news
   pub sum : size_of_zone news ≡ b.size
   pub behind : (rest : List ZoneBlock) → AllNeighbours NotBothFree (b ∷ rest) → AllNeighbours NotBothFree (others ++ rest)
 
-pub taken_is : (b : ZoneBlock) (need : ℕ) → IsZoneBlock b → b.used ≡ false → 32 ≤ need → IsMultiple 8 need → need ≤ b.size → IsTaken b (taken b need)
+pub taken_is : (b : ZoneBlock) (need : ℕ) → IsZoneBlock b → b.used ≡ false → 32 ≤ need → IsMultiple 8 need → need ≤ b.size → IsTaken b need (taken b need)
 taken_is b need block free least whole large = split (ltb 64 (b.size - need)) (λ h. ltb-true 64 (b.size - need) h)
   where
-    split : (t : Bool) → (t ≡ true → 64 < b.size - need) → IsTaken b (cond t (used_block need ∷ free_block (b.size - need) ∷ []) (used_block b.size ∷ []))
+    split : (t : Bool) → (t ≡ true → 64 < b.size - need) → IsTaken b need (cond t (used_block need ∷ free_block (b.size - need) ∷ []) (used_block b.size ∷ []))
     split true h = record {
       size = need;
+      large = omega arith;
       others = free_block (b.size - need) ∷ [];
       first = refl;
       blocks = (IsZoneBlock-used need least whole, (IsZoneBlock-free (b.size - need) (omega (arith, h refl)) (omega (arith, whole, block.whole, large)), tt));
@@ -92,6 +94,7 @@ taken_is b need block free least whole large = split (ltb 64 (b.size - need)) (�
     }
     split false h = record {
       size = b.size;
+      large = large;
       others = [];
       first = refl;
       blocks = (IsZoneBlock-used b.size block.least block.whole, tt);
