@@ -52,8 +52,9 @@ unfoldable pub cvar_value : Memory → List Cvar → List ℕ → Option (List �
 cvar_value m cvars name = option_and_then (λ cvar. value_at m cvar.place) (cvar_of cvars name)
 
 -- the cvars with another place for the one of this name
-unfoldable pub with_place : List Cvar → List ℕ → ℕ → List Cvar
-with_place cvars name place = map (λ (cvar : Cvar). if bytes_eq cvar.name name then record cvar { place = place } else cvar) cvars
+abbrev pub with_place : List Cvar → List ℕ → ℕ → List Cvar
+with_place [] name place = []
+with_place (cvar ∷ cvars) name place = if bytes_eq cvar.name name then record cvar { place = place } ∷ cvars else cvar ∷ with_place cvars name place
 
 -- What setting a cvar gives: whether there is one, or what its block needs where the zone is full, with the memory after it; and
 -- the cvars after it.

@@ -1,7 +1,7 @@
 //! The cvars: variables of the console with values in the zone.
 #![tactic(auto)]
 
-ghost use Rattle.std.specs.Prelude.{◌≡◌, ℕ, ◌<◌, ◌^◌, Some, None, MatchOption, is_some, IfSome, IfOk, OnErr, length, take};
+ghost use Rattle.std.specs.Prelude.{◌≡◌, ℕ, ◌<◌, ◌^◌, Some, None, MatchOption, is_some, IfSome, IfOk, OnErr, length, take, position, bytes_eq};
 ghost use Rattle.mem_model.specs.Answer.{Gives};
 ghost use Rattle.mem_model.specs.Laid.{Laid, IsText};
 ghost use Rattle.cvar_table.specs.Cvars.{defaults, created, cvar_of, cvar_value, set_cvar, HoldsCvars};
@@ -42,7 +42,9 @@ impl Model for Cvars {
 }
 
 // The position of the cvar that has exactly this name.
-fn position_of(name: &[u8]) -> Option<usize> {
+fn position_of(name: &[u8]) -> Option<usize>
+    ensures { result ≡ position (λ own. bytes_eq own.name name.now) defaults }
+{
     DEFAULTS.iter().position(|(own, _)| *own == name)
 }
 
@@ -108,8 +110,7 @@ impl Cvars {
         ensures cvars { IfSome (zone_told result) (λ _. self.new ≡ (set_cvar (M.state store.old) self.old name.now value.now).cvars) }
         ensures stays { OnErr result (self.new ≡ self.old) }
         ensures holds { HoldsCvars (M.state store.new) self.new }
-        ensures was_laid { Laid (M.state store.old) }
-        ensures laid { Laid (M.state store.new) }
+        ensures laid { Laid (M.state store.old) → Laid (M.state store.new) }
     {
         match position_of(name) {
             Some(at) => match replace_value(store, self.places[at], value) {

@@ -1,0 +1,5 @@
+mod Assumed
+mod Writing
+mod Putting
+pub mod ValueLaws
+pub mod HeldLaws
