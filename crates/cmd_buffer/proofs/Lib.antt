@@ -1,3 +1,4 @@
+pub mod AliasLaws
 pub mod Counting
 pub mod Cuts
 mod Examples

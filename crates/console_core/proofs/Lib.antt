@@ -1,5 +1,6 @@
 pub mod Executing
 pub mod Following
+pub mod Holding
 pub mod Framing
 pub mod Lining
 pub mod Loading

@@ -1,5 +1,5 @@
 // The replies of commands.
-ghost use Rattle.std.specs.Prelude.{◌≡◌, ◌≤◌, ◌++◌, ◌∷◌, [], drop, OnOk, OnErr, IfOk, IfErr, if◌then◌else◌, codes, Ok};
+ghost use Rattle.std.specs.Prelude.{◌≡◌, ◌≤◌, ◌++◌, ◌∷◌, [], drop, OnOk, OnErr, IfOk, IfErr, if◌then◌else◌, false, codes, Ok};
 ghost use Rattle.outside_io.specs.Causes.{Rose};
 ghost use Rattle.outside_io.specs.Streams.{Adds, AddsFront};
 ghost use Rattle.reply_pieces.specs.Pieces.{text_of, joined};

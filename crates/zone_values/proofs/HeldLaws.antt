@@ -1,9 +1,12 @@
 -- Laws of places that are held: what keeps each of them used, and no two the same.
-use Rattle.std.proofs.Common.{◌≡◌, ◌≢◌, ℕ, List, [], ◌∷◌, ◌++◌, Some, None, Option, refl, sym, ap, ◌∙◌}
+use Rattle.std.proofs.Common.{◌≡◌, ◌≢◌, ℕ, List, [], ◌∷◌, ◌++◌, Some, None, Option, length, ◌≤◌, refl, sym, ap, ◌∙◌}
 use Rattle.std.specs.Prelude.{IsSome}
 use Rattle.std.specs.List.{AllByRecursion}
 use Rattle.mem_model.specs.Memory.{Memory, Zone}
 use Rattle.mem_model.specs.Zone.{zone_bytes, used_bytes_from}
+use Rattle.mem_model.specs.Apart.{NoneIs}
+use Rattle.mem_model.specs.Apart as apart
+use Rattle.mem_model.proofs.ZoneApart.{places-few}
 use Rattle.zone_values.specs.Held.{IsNoneOf, AreApart, IsUsed, AreHeld}
 
 -- a used block has bytes
@@ -57,3 +60,15 @@ all_joined P (x ∷ xs) ys front back = (front.0, all_joined P xs ys front.1 bac
 -- none of these is any of those
 pub AllApart : List ℕ → List ℕ → Type 0
 AllApart xs ys = AllByRecursion (λ x. IsNoneOf x ys) xs
+
+none_turned : (place : ℕ) (places : List ℕ) → IsNoneOf place places → NoneIs place places
+none_turned place [] none = tt
+none_turned place (other ∷ others) none = ((λ e. none.0 (sym e)), none_turned place others none.1)
+
+apart_turned : (places : List ℕ) → AreApart places → apart.AreApart places
+apart_turned [] all = tt
+apart_turned (place ∷ places) all = (none_turned place places all.0, apart_turned places all.1)
+
+-- No more places are held than the zone has blocks.
+pub AreHeld-few : (m : Memory) (places : List ℕ) → AreHeld m places → length places ≤ length m.zone.blocks
+AreHeld-few m places held = places-few m places (apart_turned places held.apart) held.used

@@ -26,3 +26,7 @@ pub record AreHeld (m : Memory) (places : List ℕ) : Type 0 where
 abbrev pub OthersStay : (old new : Memory) → (before now : List ℕ) → Type 0
 OthersStay old new before now =
     (place : ℕ) (bytes : List ℕ) → IsNoneOf place before → zone_bytes old place ≡ Some bytes → IsNoneOf place now × (zone_bytes new place ≡ Some bytes)
+
+-- The blocks at these places keep their bytes.
+abbrev pub KeepsAt : (old new : Memory) → List ℕ → Type 0
+KeepsAt old new places = AllByRecursion (λ place. (bytes : List ℕ) → zone_bytes old place ≡ Some bytes → zone_bytes new place ≡ Some bytes) places

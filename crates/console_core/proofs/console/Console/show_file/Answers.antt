@@ -7,7 +7,7 @@ use Rattle.console_core.specs.Commands.{filed, file_text}
 use Rattle.console_core.specs.Sessions.{state_of}
 use Rattle.console_core.specs.declared.ends.Next.TheVariants.{Goes}
 use Rattle.console_core.proofs.Following.{of_files, follow}
-use Rattle.console_core.proofs.console.commands.Console.show_file.Goals as goal
+use Rattle.console_core.proofs.console.Console.show_file.Goals as goal
 
 pub returns-in-Err-NotFound-clause-told : goal.returns-in-Err-NotFound-clause-told
 returns-in-Err-NotFound-clause-told g c =

@@ -3,7 +3,7 @@ use Rattle.console_core.specs.Mounts.{told_files}
 use Rattle.console_core.specs.Commands.{unknown, unknown_word}
 use Rattle.console_core.specs.Sessions.{state_of}
 use Rattle.console_core.proofs.Following.{of_files, same_did}
-use Rattle.console_core.proofs.console.values.Console.unknown.Goals as goal
+use Rattle.console_core.proofs.console.Console.unknown.Goals as goal
 
 pub returns-clause-told : goal.returns-clause-told
 returns-clause-told g c = of_files (told_files g.F.Folder.files c.args.self.now.paths) c.unknown_word.ensures.told (λ files follows.

@@ -3,7 +3,7 @@ use Rattle.console_core.specs.Runs.{line}
 use Rattle.console_core.specs.Sessions.{state_of}
 use Rattle.console_core.proofs.Following.{of_files}
 use Rattle.console_core.proofs.Lining.{line_fits, line_over, same_run}
-use Rattle.console_core.proofs.console.frames.Console.run_line.Goals as goal
+use Rattle.console_core.proofs.console.Console.run_line.Goals as goal
 
 pub returns-then-add_line-clause-told : goal.returns-then-add_line-clause-told
 returns-then-add_line-clause-told g c = of_files (told_files g.F.Folder.files c.args.self.now.paths) c.run_frame.ensures.told (λ files runs.

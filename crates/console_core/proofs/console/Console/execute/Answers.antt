@@ -3,7 +3,7 @@ use Rattle.console_core.specs.Loads.{load_low}
 use Rattle.console_core.specs.Sessions.{state_of}
 use Rattle.console_core.proofs.Following.{of_files}
 use Rattle.console_core.proofs.Executing.{follow_missing, follow_short, follow_loaded}
-use Rattle.console_core.proofs.console.commands.Console.execute.Goals as goal
+use Rattle.console_core.proofs.console.Console.execute.Goals as goal
 
 pub returns-in-Ok-clause-told : goal.returns-in-Ok-clause-told
 returns-in-Ok-clause-told g c = of_files (told_files g.F.Folder.files c.args.self.now.paths) c.in-Ok.ensures.told (λ files is.

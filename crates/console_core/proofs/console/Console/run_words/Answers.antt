@@ -2,7 +2,7 @@ use Rattle.console_core.specs.Mounts.{told_files}
 use Rattle.console_core.specs.Commands.{by_words}
 use Rattle.console_core.specs.Sessions.{state_of}
 use Rattle.console_core.proofs.Following.{of_files, same_did, by_words_is}
-use Rattle.console_core.proofs.console.frames.Console.run_words.Goals as goal
+use Rattle.console_core.proofs.console.Console.run_words.Goals as goal
 
 pub returns-clause-told : goal.returns-clause-told
 returns-clause-told g c = of_files (told_files g.F.Folder.files c.args.self.now.paths) c.run_verb.ensures.told (λ files follows.

@@ -3,7 +3,7 @@ use Rattle.console_core.specs.Mounts.{told_files}
 use Rattle.console_core.specs.Commands.{command}
 use Rattle.console_core.specs.Sessions.{state_of}
 use Rattle.console_core.proofs.Following.{of_files, same_did, command_is}
-use Rattle.console_core.proofs.console.frames.Console.run_command.Goals as goal
+use Rattle.console_core.proofs.console.Console.run_command.Goals as goal
 
 pub returns-in-Some-clause-told : goal.returns-in-Some-clause-told
 returns-in-Some-clause-told g c = of_files (told_files g.F.Folder.files c.args.self.now.paths) c.run_taken.ensures.told (λ files follows.

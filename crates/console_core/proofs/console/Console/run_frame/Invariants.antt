@@ -4,7 +4,7 @@ use Rattle.console_core.specs.Mounts.{told_files, count_of}
 use Rattle.console_core.specs.Runs.{frame}
 use Rattle.console_core.specs.Sessions.{state_of}
 use Rattle.console_core.proofs.Framing.{RunSoFar}
-use Rattle.console_core.proofs.console.frames.Console.run_frame.Given as goal
+use Rattle.console_core.proofs.console.Console.run_frame.Given as goal
 
 abbrev pub invariant-commands : goal.invariant-commands
 invariant-commands g l =

@@ -7,7 +7,7 @@ use Rattle.console_core.specs.Sessions.{state_of}
 use Rattle.console_core.specs.declared.ends.Next.TheVariants.{Goes}
 use Rattle.console_core.proofs.Following.{of_files, of_both}
 use Rattle.console_core.proofs.Framing.{frame_empty, frame_away, so_far_all, step_more, step_last, step_cut, last_runs}
-use Rattle.console_core.proofs.console.frames.Console.run_frame.Goals as goal
+use Rattle.console_core.proofs.console.Console.run_frame.Goals as goal
 
 pub returns-then-budget-eq0-clause-told : goal.returns-then-budget-eq0-clause-told
 returns-then-budget-eq0-clause-told g c =

@@ -2,7 +2,7 @@ use Rattle.console_core.specs.Mounts.{told_files}
 use Rattle.console_core.specs.Sessions.{state_of}
 use Rattle.console_core.proofs.Following.{of_files, always}
 use Rattle.console_core.proofs.Lining.{overflow_cut, overflow_runs}
-use Rattle.console_core.proofs.console.frames.Console.run_overflow.Goals as goal
+use Rattle.console_core.proofs.console.Console.run_overflow.Goals as goal
 
 pub returns-in-Err-clause-told : goal.returns-in-Err-clause-told
 returns-in-Err-clause-told g c = always (told_files g.F.Folder.files c.args.self.now.paths) (λ files. overflow_cut files (state_of g.M.Store.state c.args.self.now) (state_of g.M.Store.state c.args.self.now) _ _ c.in-Err.ensures.part)

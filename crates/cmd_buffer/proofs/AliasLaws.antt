@@ -1,0 +1,61 @@
+-- Laws of the aliases, for those who keep them.
+use Rattle.std.proofs.Common.{◌≡◌, ℕ, zero, suc, ◌≤◌, List, [], ◌∷◌, length, Option, Some, None, refl, sym, ap, ◌∙◌, arith, subst}
+use Rattle.std.specs.List.{AllByRecursion}
+use Rattle.mem_model.specs.Memory.{Memory}
+use Rattle.mem_model.specs.Zone.{zone_bytes}
+use Rattle.zone_values.specs.Held.{IsUsed, AreHeld, KeepsAt}
+use Rattle.zone_values.proofs.HeldLaws.{used_bytes_of, IsUsed-from_bytes, AreHeld-few}
+use Rattle.cmd_buffer.specs.Aliases.{Alias, alias_at, alias_and, next_in, name_in, value_in, IsRecord, IsChain, HoldsAliases, followed, aliases_of, alias_places}
+
+chain_still : (m n : Memory) (first : Option ℕ) (aliases : List Alias) → KeepsAt m n (alias_places aliases) → IsChain m first aliases → IsChain n first aliases
+chain_still m n first [] keeps chain = chain
+chain_still m n first (a ∷ older) keeps chain =
+    let next = chain.1.0 in
+    let is = chain.1.1 in
+    (chain.0, (next, record { bytes = is.bytes; there = keeps.0 is.bytes is.there; long = is.long; follows = is.follows; name = is.name; value = is.value }, chain_still m n next older keeps.1.1 chain.1.2))
+
+alias_is : (m : Memory) (a : Alias) (next : Option ℕ) (is : IsRecord m a next) → alias_at a.record_place is.bytes ≡ a
+alias_is m a next is =
+    let with_name : (name : List ℕ) → Alias = λ name. record { record_place = a.record_place; name = name; value_place = value_in is.bytes } in
+    let with_value : (value : ℕ) → Alias = λ value. record { record_place = a.record_place; name = a.name; value_place = value } in
+    ap with_name is.name ∙ ap with_value is.value
+
+-- a walk of enough steps follows the whole chain
+pub followed_all : (steps : ℕ) (m : Memory) (first : Option ℕ) (aliases : List Alias) → IsChain m first aliases → length aliases ≤ steps → followed steps m first ≡ aliases
+followed_all zero m first [] chain few = refl
+followed_all (suc steps) m first [] chain few = ap (followed (suc steps) m) chain
+followed_all zero m first (a ∷ older) chain few = absurd (omega arith)
+followed_all (suc steps) m first (a ∷ older) chain few =
+    let next = chain.1.0 in
+    let is = chain.1.1 in
+    let rest : followed steps m (next_in is.bytes) ≡ older = ap (followed steps m) is.follows ∙ followed_all steps m next older chain.1.2 (omega arith) in
+    ap (followed (suc steps) m) chain.0
+    ∙ ap (λ (bytes : Option (List ℕ)). alias_and a.record_place bytes (λ next. followed steps m next)) is.there
+    ∙ ap (λ (newest : Alias). newest ∷ followed steps m (next_in is.bytes)) (alias_is m a next is)
+    ∙ ap (λ (rest : List Alias). a ∷ rest) rest
+
+used_still : (m n : Memory) (places : List ℕ) → KeepsAt m n places → AllByRecursion (IsUsed m) places → AllByRecursion (IsUsed n) places
+used_still m n [] keeps used = tt
+used_still m n (place ∷ places) keeps used =
+    let some = used_bytes_of m place used.0 in
+    (IsUsed-from_bytes n place some.0 (keeps.0 some.0 some.1), used_still m n places keeps.1 used.1)
+
+half_many : (aliases : List Alias) → length aliases ≤ length (alias_places aliases)
+half_many [] = omega arith
+half_many (a ∷ older) = omega (arith, half_many older)
+
+-- A chain whose blocks are held is that of all aliases.
+pub aliases_are : (m : Memory) (newest : Option ℕ) (aliases : List Alias) → IsChain m newest aliases → AreHeld m (alias_places aliases) → HoldsAliases m newest × (aliases_of m newest ≡ aliases)
+unfolding aliases_of
+aliases_are m newest aliases chain held =
+    let are : followed (length m.zone.blocks) m newest ≡ aliases = followed_all (length m.zone.blocks) m newest aliases chain (omega (arith, half_many aliases, AreHeld-few m (alias_places aliases) held)) in
+    (record {
+      chain = subst (IsChain m newest) (sym are) chain;
+      held = subst (λ (all : List Alias). AreHeld m (alias_places all)) (sym are) held;
+    }, are)
+
+-- The aliases stay over a step that keeps the bytes of their blocks.
+pub aliases_still : (m n : Memory) (newest : Option ℕ) → KeepsAt m n (alias_places (aliases_of m newest)) → HoldsAliases m newest → HoldsAliases n newest × (aliases_of n newest ≡ aliases_of m newest)
+aliases_still m n newest keeps h =
+    aliases_are n newest (aliases_of m newest) (chain_still m n newest (aliases_of m newest) keeps h.chain)
+    (record { used = used_still m n (alias_places (aliases_of m newest)) keeps h.held.used; apart = h.held.apart })

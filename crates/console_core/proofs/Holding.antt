@@ -1,0 +1,113 @@
+-- What a console keeps stays over the steps of its commands.
+use Rattle.std.proofs.Common.{◌≡◌, ◌≢◌, ℕ, List, [], ◌∷◌, ◌++◌, Bool, Some, None, Option, Result, refl, sym, ap, ◌∙◌, subst}
+use Rattle.std.specs.List.{AllByRecursion}
+use Rattle.mem_model.specs.Memory.{Memory}
+use Rattle.mem_model.specs.Laid.{Laid, IsText}
+use Rattle.mem_model.specs.Zone.{zone_bytes}
+use Rattle.mem_model.specs.Event.{Shortage}
+use Rattle.mem_model.specs.Answer.{Gives}
+use Rattle.mem_model.specs.Hunk.{without_temp}
+use Rattle.mem_model.specs.Operations.{low_alloc, high_alloc}
+use Rattle.mem_model.proofs.Untouched.{zone_bytes-same, zone-low_alloc, zone-high_alloc, zone-without_temp}
+use Rattle.zone_values.specs.Held.{IsNoneOf, IsUsed, AreHeld, OthersStay, KeepsAt}
+use Rattle.zone_values.proofs.HeldLaws.{used_bytes_of, IsUsed-from_bytes, AreHeld-same}
+use Rattle.cvar_table.specs.Cvars.{Cvar, HoldsCvars, places_of as cvar_places}
+use Rattle.cmd_buffer.specs.Aliases.{Alias, HoldsAliases, aliases_of, alias_places}
+use Rattle.cmd_buffer.proofs.AliasLaws.{aliases_still}
+use Rattle.console_core.specs.States.{State}
+use Rattle.console_core.specs.Holding.{Holds}
+
+-- no place of these is any of those
+abbrev AllApart : List ℕ → List ℕ → Type 0
+AllApart places others = AllByRecursion (λ place. IsNoneOf place others) places
+
+apart-more : (place : ℕ) (places others : List ℕ) → IsNoneOf place others → AllApart others places → AllApart others (place ∷ places)
+apart-more place places [] none apart = tt
+apart-more place places (other ∷ others) none apart = ((λ e. none.0 (sym e), apart.0), apart-more place places others none.1 apart.1)
+
+apart-none : (others : List ℕ) → AllApart others []
+apart-none [] = tt
+apart-none (other ∷ others) = (tt, apart-none others)
+
+-- the same, said of the others
+turned_apart : (places others : List ℕ) → AllApart places others → AllApart others places
+turned_apart [] others apart = apart-none others
+turned_apart (place ∷ places) others apart = apart-more place places others apart.0 (turned_apart places others apart.1)
+
+-- Over a step that leaves what is kept elsewhere, what is held there is held still, and apart from what is kept now.
+module _ (m n : Memory) (before now : List ℕ) (stay : OthersStay m n before now) where
+  still_used : (places : List ℕ) → AllApart places before → AllByRecursion (IsUsed m) places → AllByRecursion (IsUsed n) places
+  still_used [] apart used = tt
+  still_used (place ∷ places) apart used =
+      let some = used_bytes_of m place used.0 in
+      (IsUsed-from_bytes n place some.0 (stay place some.0 apart.0 some.1).1, still_used places apart.1 used.1)
+
+  still_apart : (places : List ℕ) → AllApart places before → AllByRecursion (IsUsed m) places → AllApart places now
+  still_apart [] apart used = tt
+  still_apart (place ∷ places) apart used =
+      let some = used_bytes_of m place used.0 in
+      ((stay place some.0 apart.0 some.1).0, still_apart places apart.1 used.1)
+
+  still_bytes : (places : List ℕ) → AllApart places before → KeepsAt m n places
+  still_bytes [] apart = tt
+  still_bytes (place ∷ places) apart = (λ bytes there. (stay place bytes apart.0 there).1, still_bytes places apart.1)
+
+same_bytes : (m n : Memory) (places : List ℕ) → n.zone ≡ m.zone → KeepsAt m n places
+same_bytes m n [] same = tt
+same_bytes m n (place ∷ places) same = (λ bytes there. zone_bytes-same n m place same ∙ there, same_bytes m n places same)
+
+-- a step that leaves the zone
+pub holds_memory : (s : State) (m : Memory) → Holds s → Laid m → m.zone ≡ s.memory.zone → Holds (record s { memory = m })
+holds_memory s m h laid same =
+    let still = aliases_still s.memory m s.newest (same_bytes s.memory m (alias_places (aliases_of s.memory s.newest)) same) h.aliases in
+    record {
+      laid = laid;
+      text = h.text;
+      cvars = AreHeld-same s.memory m (cvar_places s.cvars) (sym same) h.cvars;
+      aliases = still.0;
+      apart = subst (λ (all : List Alias). AllApart (alias_places all) (cvar_places s.cvars)) (sym still.1) h.apart;
+    }
+
+pub holds_buffer : (s : State) (buffer : List ℕ) → Holds s → IsText buffer → Holds (record s { buffer = buffer })
+holds_buffer s buffer h text = record { laid = h.laid; text = text; cvars = h.cvars; aliases = h.aliases; apart = h.apart }
+
+pub holds_level : (s : State) (level : ℕ) → Holds s → Holds (record s { level = level })
+holds_level s level h = record { laid = h.laid; text = h.text; cvars = h.cvars; aliases = h.aliases; apart = h.apart }
+
+-- the cvars changed in their blocks
+pub holds_cvars : (s : State) (m : Memory) (cvars : List Cvar) → Holds s → Laid m → HoldsCvars m cvars → OthersStay s.memory m (cvar_places s.cvars) (cvar_places cvars) →
+    Holds (record s { memory = m; cvars = cvars })
+holds_cvars s m cvars h laid holds stay =
+    let places = alias_places (aliases_of s.memory s.newest) in
+    let still = aliases_still s.memory m s.newest (still_bytes s.memory m _ _ stay places h.apart) h.aliases in
+    record {
+      laid = laid;
+      text = h.text;
+      cvars = holds;
+      aliases = still.0;
+      apart = subst (λ (all : List Alias). AllApart (alias_places all) (cvar_places cvars)) (sym still.1) (still_apart s.memory m _ _ stay places h.apart h.aliases.held.used);
+    }
+
+-- the aliases changed in their blocks
+pub holds_aliases : (s : State) (m : Memory) (newest : Option ℕ) → Holds s → Laid m → HoldsAliases m newest →
+    OthersStay s.memory m (alias_places (aliases_of s.memory s.newest)) (alias_places (aliases_of m newest)) → Holds (record s { memory = m; newest = newest })
+holds_aliases s m newest h laid holds stay =
+    let places = cvar_places s.cvars in
+    let apart = turned_apart (alias_places (aliases_of s.memory s.newest)) places h.apart in
+    record {
+      laid = laid;
+      text = h.text;
+      cvars = record { used = still_used s.memory m _ _ stay places apart h.cvars.used; apart = h.cvars.apart };
+      aliases = holds;
+      apart = turned_apart places (alias_places (aliases_of m newest)) (still_apart s.memory m _ _ stay places apart h.cvars.used);
+    }
+
+-- the zone after a low allocation
+pub zone_after_low : (m n : Memory) (size : ℕ) (name : List ℕ) (frugal : Bool) (reply : Option (Result ℕ Shortage)) → Gives (low_alloc m size name) frugal m reply n → n.zone ≡ m.zone
+zone_after_low m n size name frugal None given = ap (λ (x : Memory). x.zone) given.after
+zone_after_low m n size name frugal (Some reply) given = ap (λ (x : Memory). x.zone) given.after ∙ zone-low_alloc m size name
+
+-- the zone after a high allocation
+pub zone_after_high : (m n : Memory) (size : ℕ) (name : List ℕ) (frugal : Bool) (reply : Option (Result ℕ Shortage)) → Gives (high_alloc m size name) frugal (without_temp m) reply n → n.zone ≡ m.zone
+zone_after_high m n size name frugal None given = ap (λ (x : Memory). x.zone) given.after ∙ zone-without_temp m
+zone_after_high m n size name frugal (Some reply) given = ap (λ (x : Memory). x.zone) given.after ∙ zone-high_alloc m size name
