@@ -1,23 +1,9 @@
--- Places of zone blocks that someone keeps: each has its own.
-use Rattle.std.specs.Prelude.{ℕ, ◌≢◌, List, [], ◌∷◌, IsSome}
-use Rattle.std.specs.List.{AllByRecursion}
+-- Places of the zone that someone keeps.
+use Rattle.std.specs.Prelude.{ℕ, List}
 use Rattle.mem_model.specs.Memory.{Memory}
-use Rattle.mem_model.specs.Zone.{zone_bytes}
-
--- the place is none of these
-abbrev pub IsNoneOf : ℕ → List ℕ → Type 0
-IsNoneOf place places = AllByRecursion (λ other. place ≢ other) places
-
--- no two of the places are the same
-abbrev pub AreApart : List ℕ → Type 0
-AreApart [] = Unit {0}
-AreApart (place ∷ places) = IsNoneOf place places × AreApart places
-
--- a used block of the zone has its payload there
-abbrev pub IsUsed : Memory → ℕ → Type 0
-IsUsed m place = IsSome (zone_bytes m place)
+use Rattle.mem_model.specs.Apart.{AreUsed, AreApart}
 
 -- The places are those of used blocks, and no two are the same.
 pub record AreHeld (m : Memory) (places : List ℕ) : Type 0 where
-  pub used : AllByRecursion (IsUsed m) places
+  pub used : AreUsed m places
   pub apart : AreApart places
