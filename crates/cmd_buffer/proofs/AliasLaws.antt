@@ -3,8 +3,10 @@ use Rattle.std.proofs.Common.{◌≡◌, ℕ, zero, suc, ◌≤◌, List, [], �
 use Rattle.std.specs.List.{AllByRecursion}
 use Rattle.mem_model.specs.Memory.{Memory}
 use Rattle.mem_model.specs.Zone.{zone_bytes}
-use Rattle.zone_values.specs.Held.{IsUsed, AreHeld, KeepsAt}
-use Rattle.zone_values.proofs.HeldLaws.{used_bytes_of, IsUsed-from_bytes, AreHeld-few}
+use Rattle.mem_model.specs.Apart.{AreUsed}
+use Rattle.mem_model.proofs.ZoneApart.{places-few}
+use Rattle.zone_values.specs.Held.{AreHeld, KeepsAt}
+use Rattle.zone_values.proofs.HeldLaws.{some-kept}
 use Rattle.cmd_buffer.specs.Aliases.{Alias, alias_at, alias_and, next_in, name_in, value_in, IsRecord, IsChain, HoldsAliases, followed, aliases_of, alias_places}
 
 chain_still : (m n : Memory) (first : Option ℕ) (aliases : List Alias) → KeepsAt m n (alias_places aliases) → IsChain m first aliases → IsChain n first aliases
@@ -34,11 +36,10 @@ followed_all (suc steps) m first (a ∷ older) chain few =
     ∙ ap (λ (newest : Alias). newest ∷ followed steps m (next_in is.bytes)) (alias_is m a next is)
     ∙ ap (λ (rest : List Alias). a ∷ rest) rest
 
-used_still : (m n : Memory) (places : List ℕ) → KeepsAt m n places → AllByRecursion (IsUsed m) places → AllByRecursion (IsUsed n) places
+used_still : (m n : Memory) (places : List ℕ) → KeepsAt m n places → AreUsed m places → AreUsed n places
 used_still m n [] keeps used = tt
 used_still m n (place ∷ places) keeps used =
-    let some = used_bytes_of m place used.0 in
-    (IsUsed-from_bytes n place some.0 (keeps.0 some.0 some.1), used_still m n places keeps.1 used.1)
+(some-kept m n place keeps.0 used.0, used_still m n places keeps.1 used.1)
 
 half_many : (aliases : List Alias) → length aliases ≤ length (alias_places aliases)
 half_many [] = omega arith
@@ -48,7 +49,7 @@ half_many (a ∷ older) = omega (arith, half_many older)
 pub aliases_are : (m : Memory) (newest : Option ℕ) (aliases : List Alias) → IsChain m newest aliases → AreHeld m (alias_places aliases) → HoldsAliases m newest × (aliases_of m newest ≡ aliases)
 unfolding aliases_of
 aliases_are m newest aliases chain held =
-    let are : followed (length m.zone.blocks) m newest ≡ aliases = followed_all (length m.zone.blocks) m newest aliases chain (omega (arith, half_many aliases, AreHeld-few m (alias_places aliases) held)) in
+    let are : followed (length m.zone.blocks) m newest ≡ aliases = followed_all (length m.zone.blocks) m newest aliases chain (omega (arith, half_many aliases, places-few m (alias_places aliases) held.apart held.used)) in
     (record {
       chain = subst (IsChain m newest) (sym are) chain;
       held = subst (λ (all : List Alias). AreHeld m (alias_places all)) (sym are) held;

@@ -4,51 +4,47 @@ use Rattle.std.specs.List.{AllByRecursion}
 use Rattle.mem_model.specs.Memory.{Memory}
 use Rattle.mem_model.specs.Laid.{Laid, IsText}
 use Rattle.mem_model.specs.Zone.{zone_bytes}
+use Rattle.mem_model.specs.Apart.{NoneIs, AreUsed}
 use Rattle.mem_model.specs.Event.{Shortage}
 use Rattle.mem_model.specs.Answer.{Gives}
 use Rattle.mem_model.specs.Hunk.{without_temp}
 use Rattle.mem_model.specs.Operations.{low_alloc, high_alloc}
 use Rattle.mem_model.proofs.Untouched.{zone_bytes-same, zone-low_alloc, zone-high_alloc, zone-without_temp}
-use Rattle.zone_values.specs.Held.{IsNoneOf, IsUsed, AreHeld, OthersStay, KeepsAt}
-use Rattle.zone_values.proofs.HeldLaws.{used_bytes_of, IsUsed-from_bytes, AreHeld-same}
+use Rattle.zone_values.specs.Held.{AreHeld, NoneAmong, OthersStay, KeepsAt}
+use Rattle.zone_values.proofs.HeldLaws.{some_bytes, some-kept, AreHeld-same}
 use Rattle.cvar_table.specs.Cvars.{Cvar, HoldsCvars, places_of as cvar_places}
 use Rattle.cmd_buffer.specs.Aliases.{Alias, HoldsAliases, aliases_of, alias_places}
 use Rattle.cmd_buffer.proofs.AliasLaws.{aliases_still}
 use Rattle.console_core.specs.States.{State}
 use Rattle.console_core.specs.Holding.{Holds}
 
--- no place of these is any of those
-abbrev AllApart : List ℕ → List ℕ → Type 0
-AllApart places others = AllByRecursion (λ place. IsNoneOf place others) places
-
-apart-more : (place : ℕ) (places others : List ℕ) → IsNoneOf place others → AllApart others places → AllApart others (place ∷ places)
+apart-more : (place : ℕ) (places others : List ℕ) → NoneIs place others → NoneAmong others places → NoneAmong others (place ∷ places)
 apart-more place places [] none apart = tt
 apart-more place places (other ∷ others) none apart = ((λ e. none.0 (sym e), apart.0), apart-more place places others none.1 apart.1)
 
-apart-none : (others : List ℕ) → AllApart others []
+apart-none : (others : List ℕ) → NoneAmong others []
 apart-none [] = tt
 apart-none (other ∷ others) = (tt, apart-none others)
 
 -- the same, said of the others
-turned_apart : (places others : List ℕ) → AllApart places others → AllApart others places
+turned_apart : (places others : List ℕ) → NoneAmong places others → NoneAmong others places
 turned_apart [] others apart = apart-none others
 turned_apart (place ∷ places) others apart = apart-more place places others apart.0 (turned_apart places others apart.1)
 
 -- Over a step that leaves what is kept elsewhere, what is held there is held still, and apart from what is kept now.
 module _ (m n : Memory) (before now : List ℕ) (stay : OthersStay m n before now) where
-  still_used : (places : List ℕ) → AllApart places before → AllByRecursion (IsUsed m) places → AllByRecursion (IsUsed n) places
+  still_used : (places : List ℕ) → NoneAmong places before → AreUsed m places → AreUsed n places
   still_used [] apart used = tt
   still_used (place ∷ places) apart used =
-      let some = used_bytes_of m place used.0 in
-      (IsUsed-from_bytes n place some.0 (stay place some.0 apart.0 some.1).1, still_used places apart.1 used.1)
+      (some-kept m n place (λ bytes there. (stay place bytes apart.0 there).1) used.0, still_used places apart.1 used.1)
 
-  still_apart : (places : List ℕ) → AllApart places before → AllByRecursion (IsUsed m) places → AllApart places now
+  still_apart : (places : List ℕ) → NoneAmong places before → AreUsed m places → NoneAmong places now
   still_apart [] apart used = tt
   still_apart (place ∷ places) apart used =
-      let some = used_bytes_of m place used.0 in
+      let some = some_bytes (zone_bytes m place) used.0 in
       ((stay place some.0 apart.0 some.1).0, still_apart places apart.1 used.1)
 
-  still_bytes : (places : List ℕ) → AllApart places before → KeepsAt m n places
+  still_bytes : (places : List ℕ) → NoneAmong places before → KeepsAt m n places
   still_bytes [] apart = tt
   still_bytes (place ∷ places) apart = (λ bytes there. (stay place bytes apart.0 there).1, still_bytes places apart.1)
 
@@ -63,9 +59,9 @@ holds_memory s m h laid same =
     record {
       laid = laid;
       text = h.text;
-      cvars = AreHeld-same s.memory m (cvar_places s.cvars) (sym same) h.cvars;
+      cvars = AreHeld-same s.memory m (cvar_places s.cvars) same h.cvars;
       aliases = still.0;
-      apart = subst (λ (all : List Alias). AllApart (alias_places all) (cvar_places s.cvars)) (sym still.1) h.apart;
+      apart = subst (λ (all : List Alias). NoneAmong (alias_places all) (cvar_places s.cvars)) (sym still.1) h.apart;
     }
 
 pub holds_buffer : (s : State) (buffer : List ℕ) → Holds s → IsText buffer → Holds (record s { buffer = buffer })
@@ -85,7 +81,7 @@ holds_cvars s m cvars h laid holds stay =
       text = h.text;
       cvars = holds;
       aliases = still.0;
-      apart = subst (λ (all : List Alias). AllApart (alias_places all) (cvar_places cvars)) (sym still.1) (still_apart s.memory m _ _ stay places h.apart h.aliases.held.used);
+      apart = subst (λ (all : List Alias). NoneAmong (alias_places all) (cvar_places cvars)) (sym still.1) (still_apart s.memory m _ _ stay places h.apart h.aliases.held.used);
     }
 
 -- the aliases changed in their blocks

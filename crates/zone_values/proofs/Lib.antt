@@ -1,4 +1,3 @@
-mod Assumed
 mod Writing
 mod Putting
 pub mod ValueLaws

@@ -1,7 +1,8 @@
 -- Laws of values in the zone, over the definitions alone: what those who keep values need.
-use Rattle.std.proofs.Common.{◌≡◌, ◌≢◌, ℕ, ◌+◌, List, [], ◌∷◌, ◌++◌, Option, Some, None, Result, Ok, Err, length, drop, refl, sym, ap, ◌∙◌, arith, append_assoc, length-append}
+use Rattle.std.proofs.Common.{◌≡◌, ◌≢◌, ℕ, ◌+◌, ◌≤◌, List, [], ◌∷◌, ◌++◌, Option, Some, None, Result, Ok, Err, length, drop, replicate, refl, sym, ap, ◌∙◌, arith, append_assoc, length-append}
 use Rattle.std.specs.Prelude.{IsSome}
 use Rattle.std.specs.Option.{option_map}
+use Rattle.std.proofs.lemmas.List.{length-replicate}
 use Rattle.base_fields.specs.Texts.{until_zero}
 use Rattle.base_fields.proofs.TextLaws.{until_zero_of_ended}
 use Rattle.mem_model.specs.Memory.{Memory}
@@ -10,12 +11,13 @@ use Rattle.mem_model.specs.Laid.{Laid, IsText}
 use Rattle.mem_model.specs.Places.{zone_need}
 use Rattle.mem_model.specs.Hunk.{over}
 use Rattle.mem_model.specs.Zone.{zone_bytes, with_zone_bytes}
+use Rattle.mem_model.specs.Apart.{NoneIs, AreUsed}
 use Rattle.mem_model.specs.Operations.{z_alloc, z_free}
 use Rattle.mem_model.proofs.Laying.{length-over}
 use Rattle.mem_model.proofs.ZoneLaying.{Laid-z_alloc, Laid-z_free, Laid-with_zone_bytes}
+use Rattle.mem_model.proofs.ZoneLaws.{zone_bytes-z_alloc, zone_bytes-new, zone_place_apart, zone_bytes-z_free, zone_bytes-written, zone_bytes-elsewhere, z_alloc-refusal, NoneIs-z_new}
+use Rattle.mem_model.proofs.Untouched.{low-z_alloc, high-z_alloc, temp-z_alloc, size-z_alloc, low-z_free, high-z_free, temp-z_free, size-z_free}
 use Rattle.zone_values.specs.Values.{value_at, put_value, value_put, replace_value, old_freed, with_zero}
-use Rattle.zone_values.specs.Held.{IsUsed}
-use Rattle.zone_values.proofs.Assumed.{zone_bytes-z_alloc, zone_bytes-new, length-z_new, zone_place_apart, zone_bytes-z_free, zone_bytes-written, zone_bytes-elsewhere, z_alloc-refused, zone-z_refused, low-z_alloc, high-z_alloc, temp-z_alloc, size-z_alloc, low-z_free, high-z_free, temp-z_free, size-z_free}
 use Rattle.zone_values.proofs.Writing.{over_front, with_zone_bytes-over}
 
 -- What is so of the memory that the zone gave, and stays so by a write, is so of the memory with the value.
@@ -45,7 +47,8 @@ given_of_put : (m : Memory) (value : List ℕ) (answer : Result ℕ ℕ) → (pu
 unfolding put_value
 given_of_put m value answer h = h
 
-put_of_replace : (m : Memory) (old : ℕ) (value : List ℕ) (answer : Result ℕ ℕ) → (replace_value m old value).answer ≡ answer → (put_value m value).answer ≡ answer
+-- replacing answers as putting does
+pub put_of_replace : (m : Memory) (old : ℕ) (value : List ℕ) (answer : Result ℕ ℕ) → (replace_value m old value).answer ≡ answer → (put_value m value).answer ≡ answer
 unfolding replace_value
 put_of_replace m old value answer h = h
 
@@ -61,6 +64,9 @@ after_replace m old value place h = ap (λ (answer : Result ℕ ℕ). old_freed 
 pub put_apart : (m : Memory) (value bytes : List ℕ) (place other : ℕ) → Laid m → (put_value m value).answer ≡ Ok place → zone_bytes m other ≡ Some bytes → other ≢ place
 put_apart m value bytes place other laid h there = zone_place_apart m (length value + 1) place other bytes laid (given_of_put m value (Ok place) h) there
 
+pub NoneIs-put_value : (m : Memory) (value : List ℕ) (place : ℕ) (places : List ℕ) → Laid m → (put_value m value).answer ≡ Ok place → AreUsed m places → NoneIs place places
+NoneIs-put_value m value place places laid h used = NoneIs-z_new m (length value + 1) place places laid (given_of_put m value (Ok place) h) used
+
 -- The other used blocks keep their bytes.
 pub zone_bytes-put_value : (m : Memory) (value bytes : List ℕ) (other : ℕ) → Laid m → zone_bytes m other ≡ Some bytes → zone_bytes (put_value m value).after other ≡ Some bytes
 unfolding put_value
@@ -69,26 +75,21 @@ zone_bytes-put_value m value bytes other laid there =
     put_steps (λ n. zone_bytes n other ≡ Some bytes) value _ _ (λ place e.
     zone_bytes-elsewhere _ place other (with_zero value) (zone_place_apart m (length value + 1) place other bytes laid e there) ∙ given) given
 
-some_of : {X : Type 0} (o : Option X) → IsSome o → (x : X) × (o ≡ Some x)
-some_of None h = absurd (cc)
-some_of (Some x) h = (x, refl)
-
 -- the bytes of the new block: the value, its zero, and what the block had behind them
 pub zone_bytes-put_new : (m : Memory) (value : List ℕ) (place : ℕ) → Laid m → (put_value m value).answer ≡ Ok place →
     (rest : List ℕ) × (zone_bytes (put_value m value).after place ≡ Some (value ++ 0 ∷ rest))
 zone_bytes-put_new m value place laid h =
-    let given = given_of_put m value (Ok place) h in
-    let some = some_of _ (zone_bytes-new m (length value + 1) place laid given) in
-    let fits = length-z_new m (length value + 1) place some.0 laid given some.1 in
-    let front = over_front some.0 (with_zero value) (omega (arith, fits, length-append value (0 ∷ []))) in
-    (drop (length (with_zero value)) some.0,
-      ap (λ (n : Memory). zone_bytes n place) (after_put m value place h ∙ sym (with_zone_bytes-over _ place some.0 (with_zero value) some.1))
-      ∙ zone_bytes-written _ place some.0 (over some.0 (with_zero value)) some.1 (length-over some.0 (with_zero value))
-      ∙ ap Some (front ∙ append_assoc value (0 ∷ []) (drop (length (with_zero value)) some.0)))
+    let new = zone_bytes-new m (length value + 1) place laid (given_of_put m value (Ok place) h) in
+    let old = replicate new.0 0 in
+    let front = over_front old (with_zero value) (omega (arith, new.1, length-append value (0 ∷ []), length-replicate {A = ℕ} new.0 0)) in
+    (drop (length (with_zero value)) old,
+      ap (λ (n : Memory). zone_bytes n place) (after_put m value place h ∙ sym (with_zone_bytes-over _ place old (with_zero value) new.2))
+      ∙ zone_bytes-written _ place old (over old (with_zero value)) new.2 (length-over old (with_zero value))
+      ∙ ap Some (front ∙ append_assoc value (0 ∷ []) (drop (length (with_zero value)) old)))
 
 -- A new block is used.
-pub IsUsed-put_value : (m : Memory) (value : List ℕ) (place : ℕ) → Laid m → (put_value m value).answer ≡ Ok place → IsUsed (put_value m value).after place
-IsUsed-put_value m value place laid h = rw (zone_bytes-put_new m value place laid h).1 refl
+pub some-put_new : (m : Memory) (value : List ℕ) (place : ℕ) → Laid m → (put_value m value).answer ≡ Ok place → IsSome (zone_bytes (put_value m value).after place)
+some-put_new m value place laid h = rw (zone_bytes-put_new m value place laid h).1 refl
 
 -- A value is there once it is put.
 pub value_at-put_value : (m : Memory) (value : List ℕ) (place : ℕ) → Laid m → IsText value → (put_value m value).answer ≡ Ok place → value_at (put_value m value).after place ≡ Some value
@@ -98,14 +99,18 @@ value_at-put_value m value place laid text h =
     ap (option_map until_zero) new.1 ∙ ap Some (until_zero_of_ended value new.0 text)
 
 -- A refusal tells what the block needs, and leaves the zone.
-pub put_value-refused : (m : Memory) (value : List ℕ) (asked : ℕ) → (put_value m value).answer ≡ Err asked → (asked ≡ zone_need (length value + 1)) × ((put_value m value).after.zone ≡ m.zone)
+pub put_value-refusal : (m : Memory) (value : List ℕ) (told : ℕ) → (put_value m value).answer ≡ Err told → (told ≡ zone_need (length value + 1)) × ((put_value m value).after.zone ≡ m.zone)
 unfolding put_value
-put_value-refused m value asked h =
-    (z_alloc-refused m (length value + 1) asked h, ap (λ (answer : Result ℕ ℕ). (value_put value answer (z_alloc m (length value + 1)).after).zone) h ∙ zone-z_refused m (length value + 1) asked h)
+put_value-refusal m value told h =
+    let given = z_alloc-refusal m (length value + 1) told h in
+    (given.0, ap (λ (answer : Result ℕ ℕ). (value_put value answer (z_alloc m (length value + 1)).after).zone) h ∙ given.1)
 
 -- The same where an old value is replaced.
 pub replace_apart : (m : Memory) (value bytes : List ℕ) (old place other : ℕ) → Laid m → (replace_value m old value).answer ≡ Ok place → zone_bytes m other ≡ Some bytes → other ≢ place
 replace_apart m value bytes old place other laid h there = put_apart m value bytes place other laid (put_of_replace m old value (Ok place) h) there
+
+pub NoneIs-replace_value : (m : Memory) (value : List ℕ) (old place : ℕ) (places : List ℕ) → Laid m → (replace_value m old value).answer ≡ Ok place → AreUsed m places → NoneIs place places
+NoneIs-replace_value m value old place places laid h used = NoneIs-put_value m value place places laid (put_of_replace m old value (Ok place) h) used
 
 pub zone_bytes-replace_value : (m : Memory) (value bytes : List ℕ) (old other : ℕ) → Laid m → other ≢ old → zone_bytes m other ≡ Some bytes → zone_bytes (replace_value m old value).after other ≡ Some bytes
 unfolding replace_value
@@ -113,31 +118,41 @@ zone_bytes-replace_value m value bytes old other laid apart there =
     let given = zone_bytes-put_value m value bytes other laid there in
     freed_steps (λ n. zone_bytes n other ≡ Some bytes) old _ _ (λ place e. zone_bytes-z_free _ old other bytes (Laid-put_value m value laid) apart given) given
 
--- the bytes of the new block, where that of the old value was used
-pub zone_bytes-replace_new : (m : Memory) (value : List ℕ) (old place : ℕ) → Laid m → IsUsed m old → (replace_value m old value).answer ≡ Ok place →
+-- the bytes of the new block, where the old place is that of a used one
+pub zone_bytes-replace_new : (m : Memory) (value bytes : List ℕ) (old place : ℕ) → Laid m → zone_bytes m old ≡ Some bytes → (replace_value m old value).answer ≡ Ok place →
     (rest : List ℕ) × (zone_bytes (replace_value m old value).after place ≡ Some (value ++ 0 ∷ rest))
-zone_bytes-replace_new m value old place laid used h =
+zone_bytes-replace_new m value bytes old place laid was h =
     let put = put_of_replace m old value (Ok place) h in
     let new = zone_bytes-put_new m value place laid put in
-    let was = some_of _ used in
-    (new.0, ap (λ (n : Memory). zone_bytes n place) (after_replace m old value place h) ∙ zone_bytes-z_free _ old place _ (Laid-put_value m value laid) (λ same. put_apart m value was.0 place old laid put was.1 (sym same)) new.1)
+    (new.0, ap (λ (n : Memory). zone_bytes n place) (after_replace m old value place h) ∙ zone_bytes-z_free _ old place _ (Laid-put_value m value laid) (λ same. put_apart m value bytes place old laid put was (sym same)) new.1)
 
-pub IsUsed-replace_value : (m : Memory) (value : List ℕ) (old place : ℕ) → Laid m → IsUsed m old → (replace_value m old value).answer ≡ Ok place → IsUsed (replace_value m old value).after place
-IsUsed-replace_value m value old place laid used h = rw (zone_bytes-replace_new m value old place laid used h).1 refl
+some_bytes : (o : Option (List ℕ)) → IsSome o → (bytes : List ℕ) × (o ≡ Some bytes)
+some_bytes None h = absurd (cc)
+some_bytes (Some bytes) h = (bytes, refl)
 
-pub value_at-replace_value : (m : Memory) (value : List ℕ) (old place : ℕ) → Laid m → IsUsed m old → IsText value → (replace_value m old value).answer ≡ Ok place → value_at (replace_value m old value).after place ≡ Some value
+pub some-replace_new : (m : Memory) (value : List ℕ) (old place : ℕ) → Laid m → IsSome (zone_bytes m old) → (replace_value m old value).answer ≡ Ok place → IsSome (zone_bytes (replace_value m old value).after place)
+some-replace_new m value old place laid used h =
+    let was = some_bytes _ used in
+    rw (zone_bytes-replace_new m value was.0 old place laid was.1 h).1 refl
+
+pub value_at-replace_value : (m : Memory) (value : List ℕ) (old place : ℕ) → Laid m → IsSome (zone_bytes m old) → IsText value → (replace_value m old value).answer ≡ Ok place → value_at (replace_value m old value).after place ≡ Some value
 unfolding value_at
 value_at-replace_value m value old place laid used text h =
-    let new = zone_bytes-replace_new m value old place laid used h in
+    let was = some_bytes _ used in
+    let new = zone_bytes-replace_new m value was.0 old place laid was.1 h in
     ap (option_map until_zero) new.1 ∙ ap Some (until_zero_of_ended value new.0 text)
 
-pub replace_value-refused : (m : Memory) (value : List ℕ) (old asked : ℕ) → (replace_value m old value).answer ≡ Err asked → (asked ≡ zone_need (length value + 1)) × ((replace_value m old value).after.zone ≡ m.zone)
+pub replace_value-refusal : (m : Memory) (value : List ℕ) (old told : ℕ) → (replace_value m old value).answer ≡ Err told → (told ≡ zone_need (length value + 1)) × ((replace_value m old value).after.zone ≡ m.zone)
 unfolding replace_value
-replace_value-refused m value old asked h =
-    let put = put_value-refused m value asked h in
+replace_value-refusal m value old told h =
+    let put = put_value-refusal m value told h in
     (put.0, ap (λ (answer : Result ℕ ℕ). (old_freed old answer (put_value m value).after).zone) h ∙ put.1)
 
 -- Neither changes the hunks.
+pub size-put_value : (m : Memory) (value : List ℕ) → (put_value m value).after.size ≡ m.size
+unfolding put_value with_zone_bytes
+size-put_value m value = let given = size-z_alloc m (length value + 1) in put_steps (λ n. n.size ≡ m.size) value _ _ (λ place e. given) given
+
 pub low-put_value : (m : Memory) (value : List ℕ) → (put_value m value).after.low ≡ m.low
 unfolding put_value with_zone_bytes
 low-put_value m value = let given = low-z_alloc m (length value + 1) in put_steps (λ n. n.low ≡ m.low) value _ _ (λ place e. given) given
@@ -150,9 +165,9 @@ pub temp-put_value : (m : Memory) (value : List ℕ) → (put_value m value).aft
 unfolding put_value with_zone_bytes
 temp-put_value m value = let given = temp-z_alloc m (length value + 1) in put_steps (λ n. n.temp ≡ m.temp) value _ _ (λ place e. given) given
 
-pub size-put_value : (m : Memory) (value : List ℕ) → (put_value m value).after.size ≡ m.size
-unfolding put_value with_zone_bytes
-size-put_value m value = let given = size-z_alloc m (length value + 1) in put_steps (λ n. n.size ≡ m.size) value _ _ (λ place e. given) given
+pub size-replace_value : (m : Memory) (value : List ℕ) (old : ℕ) → (replace_value m old value).after.size ≡ m.size
+unfolding replace_value
+size-replace_value m value old = let given = size-put_value m value in freed_steps (λ n. n.size ≡ m.size) old _ _ (λ place e. size-z_free _ old ∙ given) given
 
 pub low-replace_value : (m : Memory) (value : List ℕ) (old : ℕ) → (replace_value m old value).after.low ≡ m.low
 unfolding replace_value
@@ -166,9 +181,5 @@ pub temp-replace_value : (m : Memory) (value : List ℕ) (old : ℕ) → (replac
 unfolding replace_value
 temp-replace_value m value old = let given = temp-put_value m value in freed_steps (λ n. n.temp ≡ m.temp) old _ _ (λ place e. temp-z_free _ old ∙ given) given
 
-pub size-replace_value : (m : Memory) (value : List ℕ) (old : ℕ) → (replace_value m old value).after.size ≡ m.size
-unfolding replace_value
-size-replace_value m value old = let given = size-put_value m value in freed_steps (λ n. n.size ≡ m.size) old _ _ (λ place e. size-z_free _ old ∙ given) given
-
 -- for callers: `#[tactic(auto, using(zone_values::proofs::ValueLaws::value_laws))]`
-pub ruleset value_laws = (Laid-put_value, Laid-replace_value, put_apart, zone_bytes-put_value, IsUsed-put_value, value_at-put_value, replace_apart, zone_bytes-replace_value, IsUsed-replace_value, value_at-replace_value, low-put_value, high-put_value, temp-put_value, size-put_value, low-replace_value, high-replace_value, temp-replace_value, size-replace_value)
+pub ruleset value_laws = (Laid-put_value, Laid-replace_value, put_apart, NoneIs-put_value, zone_bytes-put_value, some-put_new, value_at-put_value, replace_apart, NoneIs-replace_value, zone_bytes-replace_value, some-replace_new, value_at-replace_value, size-put_value, low-put_value, high-put_value, temp-put_value, size-replace_value, low-replace_value, high-replace_value, temp-replace_value)

@@ -3,13 +3,13 @@ use Rattle.std.specs.Prelude.{IsSome}
 use Rattle.mem_model.specs.Memory.{Memory}
 use Rattle.mem_model.specs.Zone.{zone_bytes}
 use Rattle.mem_model.proofs.ZoneLaying.{Laid-with_zone_bytes}
-use Rattle.zone_values.proofs.Assumed.{zone_bytes-new, length-z_new}
+use Rattle.mem_model.proofs.ZoneLaws.{some-z_new, length-z_new}
 use Rattle.zone_values.proofs.Putting.{put_given, put_without}
 use Rattle.zone_values.proofs.put_value.Goals as goal
 
 pub zone_bytes_mut-requires : goal.zone_bytes_mut-requires
 zone_bytes_mut-requires g c =
-    rw c.in-Ok.ensures.gives.after (zone_bytes-new _ (length c.args.value.now + 1) c.in-Ok.place.0 c.z_alloc.ensures.was_laid c.in-Ok.ensures.gives.answer)
+    rw c.in-Ok.ensures.gives.after (some-z_new _ (length c.args.value.now + 1) c.in-Ok.place.0 c.z_alloc.ensures.was_laid c.in-Ok.ensures.gives.answer)
 
 pub write_value-requires : goal.write_value-requires
 write_value-requires g c =
