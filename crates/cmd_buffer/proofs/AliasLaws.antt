@@ -38,8 +38,7 @@ followed_all (suc steps) m first (a ∷ older) chain few =
 
 used_still : (m n : Memory) (places : List ℕ) → KeepsAt m n places → AreUsed m places → AreUsed n places
 used_still m n [] keeps used = tt
-used_still m n (place ∷ places) keeps used =
-(some-kept m n place keeps.0 used.0, used_still m n places keeps.1 used.1)
+used_still m n (place ∷ places) keeps used = (some-kept m n place keeps.0 used.0, used_still m n places keeps.1 used.1)
 
 half_many : (aliases : List Alias) → length aliases ≤ length (alias_places aliases)
 half_many [] = omega arith
@@ -60,3 +59,9 @@ pub aliases_still : (m n : Memory) (newest : Option ℕ) → KeepsAt m n (alias_
 aliases_still m n newest keeps h =
     aliases_are n newest (aliases_of m newest) (chain_still m n newest (aliases_of m newest) keeps h.chain)
     (record { used = used_still m n (alias_places (aliases_of m newest)) keeps h.held.used; apart = h.held.apart })
+
+pub holds_none : (m : Memory) → HoldsAliases m None
+holds_none m = (aliases_are m None [] refl (record { used = tt; apart = tt })).0
+
+pub aliases_none : (m : Memory) → aliases_of m None ≡ []
+aliases_none m = (aliases_are m None [] refl (record { used = tt; apart = tt })).1

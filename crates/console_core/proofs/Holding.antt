@@ -1,35 +1,23 @@
 -- What a console keeps stays over the steps of its commands.
-use Rattle.std.proofs.Common.{◌≡◌, ◌≢◌, ℕ, List, [], ◌∷◌, ◌++◌, Bool, Some, None, Option, Result, refl, sym, ap, ◌∙◌, subst}
+use Rattle.std.proofs.Common.{◌≡◌, ◌≢◌, ℕ, List, [], ◌∷◌, ◌++◌, Bool, Some, None, Option, Result, Ok, Err, refl, sym, ap, ◌∙◌, subst}
 use Rattle.std.specs.List.{AllByRecursion}
+use Rattle.std.proofs.lemmas.List.Elements.{All-nil}
 use Rattle.mem_model.specs.Memory.{Memory}
 use Rattle.mem_model.specs.Laid.{Laid, IsText}
 use Rattle.mem_model.specs.Zone.{zone_bytes}
 use Rattle.mem_model.specs.Apart.{NoneIs, AreUsed}
 use Rattle.mem_model.specs.Event.{Shortage}
-use Rattle.mem_model.specs.Answer.{Gives}
+use Rattle.mem_model.specs.Answer.{Answers, Gives}
 use Rattle.mem_model.specs.Hunk.{without_temp}
-use Rattle.mem_model.specs.Operations.{low_alloc, high_alloc}
-use Rattle.mem_model.proofs.Untouched.{zone_bytes-same, zone-low_alloc, zone-high_alloc, zone-without_temp}
+use Rattle.mem_model.specs.Operations.{low_alloc, high_alloc, high_mark, high_free}
+use Rattle.mem_model.proofs.Untouched.{zone_bytes-same, zone-low_alloc, zone-high_alloc, zone-high_mark, zone-high_free, zone-without_temp}
 use Rattle.zone_values.specs.Held.{AreHeld, NoneAmong, OthersStay, KeepsAt}
-use Rattle.zone_values.proofs.HeldLaws.{some_bytes, some-kept, AreHeld-same}
+use Rattle.zone_values.proofs.HeldLaws.{some_bytes, some-kept, AreHeld-same, among_turned}
 use Rattle.cvar_table.specs.Cvars.{Cvar, HoldsCvars, places_of as cvar_places}
 use Rattle.cmd_buffer.specs.Aliases.{Alias, HoldsAliases, aliases_of, alias_places}
-use Rattle.cmd_buffer.proofs.AliasLaws.{aliases_still}
+use Rattle.cmd_buffer.proofs.AliasLaws.{aliases_still, holds_none, aliases_none}
 use Rattle.console_core.specs.States.{State}
 use Rattle.console_core.specs.Holding.{Holds}
-
-apart-more : (place : ℕ) (places others : List ℕ) → NoneIs place others → NoneAmong others places → NoneAmong others (place ∷ places)
-apart-more place places [] none apart = tt
-apart-more place places (other ∷ others) none apart = ((λ e. none.0 (sym e), apart.0), apart-more place places others none.1 apart.1)
-
-apart-none : (others : List ℕ) → NoneAmong others []
-apart-none [] = tt
-apart-none (other ∷ others) = (tt, apart-none others)
-
--- the same, said of the others
-turned_apart : (places others : List ℕ) → NoneAmong places others → NoneAmong others places
-turned_apart [] others apart = apart-none others
-turned_apart (place ∷ places) others apart = apart-more place places others apart.0 (turned_apart places others apart.1)
 
 -- Over a step that leaves what is kept elsewhere, what is held there is held still, and apart from what is kept now.
 module _ (m n : Memory) (before now : List ℕ) (stay : OthersStay m n before now) where
@@ -89,13 +77,13 @@ pub holds_aliases : (s : State) (m : Memory) (newest : Option ℕ) → Holds s �
     OthersStay s.memory m (alias_places (aliases_of s.memory s.newest)) (alias_places (aliases_of m newest)) → Holds (record s { memory = m; newest = newest })
 holds_aliases s m newest h laid holds stay =
     let places = cvar_places s.cvars in
-    let apart = turned_apart (alias_places (aliases_of s.memory s.newest)) places h.apart in
+    let apart = among_turned (alias_places (aliases_of s.memory s.newest)) places h.apart in
     record {
       laid = laid;
       text = h.text;
       cvars = record { used = still_used s.memory m _ _ stay places apart h.cvars.used; apart = h.cvars.apart };
       aliases = holds;
-      apart = turned_apart places (alias_places (aliases_of m newest)) (still_apart s.memory m _ _ stay places apart h.cvars.used);
+      apart = among_turned places (alias_places (aliases_of m newest)) (still_apart s.memory m _ _ stay places apart h.cvars.used);
     }
 
 -- the zone after a low allocation
@@ -107,3 +95,22 @@ zone_after_low m n size name frugal (Some reply) given = ap (λ (x : Memory). x.
 pub zone_after_high : (m n : Memory) (size : ℕ) (name : List ℕ) (frugal : Bool) (reply : Option (Result ℕ Shortage)) → Gives (high_alloc m size name) frugal (without_temp m) reply n → n.zone ≡ m.zone
 zone_after_high m n size name frugal None given = ap (λ (x : Memory). x.zone) given.after ∙ zone-without_temp m
 zone_after_high m n size name frugal (Some reply) given = ap (λ (x : Memory). x.zone) given.after ∙ zone-high_alloc m size name
+
+
+-- the zone once the high hunk was cleared, and a block was asked for there
+pub zone_after_video : (m marked freed n : Memory) (size : ℕ) (name : List ℕ) (frugal : Bool) (mark : ℕ) (answer : Result (Unit {0}) ℕ) (reply : Option (Result ℕ Shortage)) →
+    Answers (high_mark m) mark marked → Answers (high_free marked 0) answer freed → Gives (high_alloc freed size name) frugal (without_temp freed) reply n → n.zone ≡ m.zone
+zone_after_video m marked freed n size name frugal mark answer reply marking freeing given =
+    zone_after_high freed n size name frugal reply given
+    ∙ ap (λ (x : Memory). x.zone) freeing.after ∙ zone-high_free marked 0
+    ∙ ap (λ (x : Memory). x.zone) marking.after ∙ zone-high_mark m
+
+-- at the start
+pub holds_first : (m : Memory) (level : ℕ) (cvars : List Cvar) → Laid m → HoldsCvars m cvars → Holds (record { memory = m; buffer = []; level = level; cvars = cvars; newest = None })
+holds_first m level cvars laid holds = record {
+  laid = laid;
+  text = All-nil (λ byte. byte ≢ 0);
+  cvars = holds;
+  aliases = holds_none m;
+  apart = subst (λ (all : List Alias). NoneAmong (alias_places all) (cvar_places cvars)) (sym (aliases_none m)) tt;
+}

@@ -1,6 +1,8 @@
 pub mod Executing
 pub mod Following
 pub mod Holding
+pub mod Listing
+pub mod Valuing
 pub mod Framing
 pub mod Lining
 pub mod Loading

@@ -4,7 +4,8 @@
 ghost use Rattle.std.specs.Prelude.{◌≡◌, ℕ, ◌<◌, ◌^◌, Some, None, MatchOption, is_some, IfSome, IfOk, OnErr, length, take, position, bytes_eq};
 ghost use Rattle.mem_model.specs.Answer.{Gives};
 ghost use Rattle.mem_model.specs.Laid.{Laid, IsText};
-ghost use Rattle.cvar_table.specs.Cvars.{defaults, created, cvar_of, cvar_value, set_cvar, HoldsCvars};
+ghost use Rattle.cvar_table.specs.Cvars.{defaults, created, cvar_of, cvar_value, set_cvar, places_of, HoldsCvars};
+ghost use Rattle.zone_values.specs.Held.{OthersStay};
 ghost use Rattle.cvar_table.specs.Told.{zone_told};
 
 use mem_model::{Place, Store, ZoneError};
@@ -79,7 +80,7 @@ impl Cvars {
 
     /// The value of the cvar of exactly this name, without the zero that ends it: `None` exactly where none has the name.
     pub fn get<'a, M: Store>(&self, store: &'a M, name: &[u8]) -> Option<&'a [u8]>
-        requires { HoldsCvars (M.state store.now) self.now }
+        requires holds { HoldsCvars (M.state store.now) self.now }
         ensures value { MatchOption result (cvar_value (M.state store.now) self.now name.now ≡ None)
             (λ value. cvar_value (M.state store.now) self.now name.now ≡ Some value.now) }
         ensures none { is_some result ≡ is_some (cvar_of self.now name.now) }
@@ -110,6 +111,7 @@ impl Cvars {
         ensures cvars { IfSome (zone_told result) (λ _. self.new ≡ (set_cvar (M.state store.old) self.old name.now value.now).cvars) }
         ensures stays { OnErr result (self.new ≡ self.old) }
         ensures holds { HoldsCvars (M.state store.new) self.new }
+        ensures others { OthersStay (M.state store.old) (M.state store.new) (places_of self.old) (places_of self.new) }
         ensures laid { Laid (M.state store.old) → Laid (M.state store.new) }
     {
         match position_of(name) {

@@ -11,6 +11,7 @@ ghost use Rattle.console_core.specs.Commands.{answer_echo, answer_file, answer_e
 ghost use Rattle.console_core.specs.Sessions.{state_of};
 
 use crate::console::Console;
+use crate::console::values::insert;
 use crate::ends::{Fault, Next};
 use crate::load::{LoadError, Loaded, load};
 use crate::replies::{put_bad_name, put_bad_number, put_block, put_echo, put_executed, put_short, reply};
@@ -96,10 +97,10 @@ impl<M: Store, F: Folder> Console<M, F> {
         ensures holds { Holds (state_of M.state self.new) }
     {
         let bytes = self.store.low_bytes(loaded.place);
-        let inserted = self
-            .buffer
-            .insert(before_zero(&bytes[..loaded.length as usize]))
-            .is_ok();
+        let inserted = insert(
+            &mut self.buffer,
+            before_zero(&bytes[..loaded.length as usize]),
+        );
         let _ = self.store.low_free(mark);
         inserted
     }

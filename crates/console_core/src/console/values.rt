@@ -1,9 +1,10 @@
 // The commands on aliases and cvars, and what a first word means that is no command.
-ghost use Rattle.std.specs.Prelude.{◌≡◌, IfSome, drop};
+ghost use Rattle.std.specs.Prelude.{◌≡◌, ◌++◌, IfSome, drop, if◌then◌else◌};
+ghost use Rattle.mem_model.specs.Laid.{IsText};
 ghost use Rattle.console_core.specs.States.{Follows, HasCauses};
 ghost use Rattle.console_core.specs.Holding.{Holds, AreShort};
 ghost use Rattle.console_core.specs.Mounts.{told_files, count_of};
-ghost use Rattle.console_core.specs.Commands.{list_aliases, make_alias, answer_alias, cvar_was_set, by_cvar, by_name, unknown, unknown_word, word_at, spaced};
+ghost use Rattle.console_core.specs.Commands.{list_aliases, make_alias, answer_alias, cvar_was_set, by_cvar, by_name, unknown, unknown_word, word_at, spaced, fits_in};
 ghost use Rattle.cvar_table.specs.Cvars.{set_cvar, cvar_value};
 ghost use Rattle.console_core.specs.Sessions.{state_of};
 
@@ -11,7 +12,7 @@ use crate::console::Console;
 use crate::ends::{Fault, Next};
 use crate::replies::{put_aliases, put_cvar, put_full, put_inserted, put_long_name, reply};
 use arrayvec::ArrayVec;
-use cmd_buffer::{AliasError, Words};
+use cmd_buffer::{AliasError, CmdBuffer, Words};
 use mem_model::{Store, ZoneError};
 use outside_io::{Folder, Sink};
 use reply_pieces::Piece;
@@ -31,6 +32,16 @@ fn value_of(words: &Words<'_>) -> ArrayVec<u8, VALUE>
     }
     value.push(b'\n');
     value
+}
+
+// Puts a text in front of the buffer, where it fits.
+pub(super) fn insert(buffer: &mut CmdBuffer, text: &[u8]) -> bool
+    requires texts { IsText text.now × IsText buffer.old }
+    ensures fits { result ≡ fits_in text.now buffer.old }
+    ensures buffer { buffer.new ≡ (if fits_in text.now buffer.old then text.now ++ buffer.old else buffer.old) }
+    ensures text { IsText buffer.new }
+{
+    buffer.insert(text).is_ok()
 }
 
 impl<M: Store, F: Folder> Console<M, F> {
@@ -126,7 +137,7 @@ impl<M: Store, F: Folder> Console<M, F> {
     {
         match self.aliases.find(&self.store, words.word(0)) {
             Some(value) => {
-                let inserted = self.buffer.insert(value).is_ok();
+                let inserted = insert(&mut self.buffer, value);
                 put_inserted(out, inserted)
             }
             None => self.run_cvar(words, out),

@@ -1,9 +1,13 @@
-use Rattle.std.proofs.Common.{arith, refl}
+use Rattle.std.proofs.Common.{arith, refl, ap, ◌∙◌, ◌+◌}
 use Rattle.std.proofs.lemmas.List.{length-replicate}
 use Rattle.mem_model.proofs.Laying.{Laid-with_low_bytes}
 use Rattle.console_core.specs.Mounts.{told_files}
 use Rattle.mem_model.proofs.Laws.{low_bytes-written}
 use Rattle.console_core.proofs.Loading.{not_found, no_room, there, zeros, done}
+use Rattle.mem_model.specs.Memory.{Memory}
+use Rattle.mem_model.specs.Told.{room_answer}
+use Rattle.mem_model.proofs.Untouched.{zone-with_low_bytes}
+use Rattle.console_core.proofs.Holding.{zone_after_low}
 use Rattle.console_core.proofs.load.load_into.Goals as goal
 
 pub returns-in_default-found-clause-told : goal.returns-in_default-found-clause-told
@@ -45,3 +49,14 @@ returns-in-Err-clause-laid g c = λ before. rw g.met.M.Store.low_writes (Laid-wi
 
 pub returns-clause-laid : goal.returns-clause-laid
 returns-clause-laid g c = λ before. rw g.met.M.Store.low_writes (Laid-with_low_bytes _ _ _ c.low_alloc.ensures.laid)
+
+pub returns-in-Err-NoRoom-clause-zone : goal.returns-in-Err-NoRoom-clause-zone
+returns-in-Err-NoRoom-clause-zone g c = zone_after_low (g.M.Store.state c.args.store.now) (g.M.Store.state c.low_alloc.new.self) (c.in-Some.len + 1) c.args.block_name.now g.M.Store.frugal (room_answer c.low_alloc.result) c.low_alloc.ensures.gives
+
+pub returns-in-Err-clause-zone : goal.returns-in-Err-clause-zone
+returns-in-Err-clause-zone g c = ap (λ (m : Memory). m.zone) (g.met.M.Store.low_writes _ _ _) ∙ zone-with_low_bytes _ _ _
+    ∙ zone_after_low (g.M.Store.state c.args.store.now) (g.M.Store.state c.low_alloc.new.self) (c.in-Some.len + 1) c.args.block_name.now g.M.Store.frugal (room_answer c.low_alloc.result) c.low_alloc.ensures.gives
+
+pub returns-clause-zone : goal.returns-clause-zone
+returns-clause-zone g c = ap (λ (m : Memory). m.zone) (g.met.M.Store.low_writes _ _ _) ∙ zone-with_low_bytes _ _ _
+    ∙ zone_after_low (g.M.Store.state c.args.store.now) (g.M.Store.state c.low_alloc.new.self) (c.in-Some.len + 1) c.args.block_name.now g.M.Store.frugal (room_answer c.low_alloc.result) c.low_alloc.ensures.gives

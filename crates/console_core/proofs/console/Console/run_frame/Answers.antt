@@ -44,7 +44,7 @@ commands-preserved g c =
           step_more c.args.through files c.commands.budget (c.commands.budget - 1) (frame c.args.through files 4096 (state_of g.M.Store.state c.args.self.now)) (state_of g.M.Store.state c.commands.self) (state_of g.M.Store.state c.run_command.new.self) c.in-Ok.next
           (g.O.Sink.got c.args.out.now) (g.O.Sink.got c.commands.out) (g.O.Sink.got c.run_command.new.out) less some so_far done c.in_default.ensures);
       files = c.in-Ok.ensures.files ∙ c.commands.invariant.files;
-      laid = λ before. c.in-Ok.ensures.laid (c.commands.invariant.laid before);
+      holds = c.in-Ok.ensures.holds;
       folder_counts = omega (arith, c.commands.invariant.folder_counts, c.in-Ok.ensures.causes.folder_counts);
       sink_counts = omega (arith, c.commands.invariant.sink_counts, c.in-Ok.ensures.causes.sink_counts);
     }

@@ -1,6 +1,6 @@
 use Rattle.std.proofs.Common.{◌≡◌, ◌≤◌, IfSome}
-use Rattle.mem_model.specs.Laid.{Laid}
 use Rattle.console_core.specs.Mounts.{told_files, count_of}
+use Rattle.console_core.specs.Holding.{Holds}
 use Rattle.console_core.specs.Runs.{frame}
 use Rattle.console_core.specs.Sessions.{state_of}
 use Rattle.console_core.proofs.Framing.{RunSoFar}
@@ -12,7 +12,7 @@ invariant-commands g l =
     record {
       told : IfSome (told_files g.F.Folder.files l.initial.self.paths) (λ files. RunSoFar (frame l.through files 4096 (state l.initial.self)) (frame l.through files l.budget (state l.self)) (g.O.Sink.got l.initial.out) (g.O.Sink.got l.out));
       files : told_files g.F.Folder.files l.self.paths ≡ told_files g.F.Folder.files l.initial.self.paths;
-      laid : Laid (g.M.Store.state l.initial.self.store) → Laid (g.M.Store.state l.self.store);
+      holds : Holds (state l.self);
       folder_counts : count_of g.F.Folder.folder_faults l.initial.self.paths ≤ count_of g.F.Folder.folder_faults l.self.paths;
       sink_counts : g.O.Sink.sink_faults l.initial.out ≤ g.O.Sink.sink_faults l.out;
     }

@@ -7,6 +7,7 @@ use Rattle.console_core.specs.Commands.{filed, file_text}
 use Rattle.console_core.specs.Sessions.{state_of}
 use Rattle.console_core.specs.declared.ends.Next.TheVariants.{Goes}
 use Rattle.console_core.proofs.Following.{of_files, follow}
+use Rattle.console_core.proofs.Holding.{holds_memory}
 use Rattle.console_core.proofs.console.Console.show_file.Goals as goal
 
 pub returns-in-Err-NotFound-clause-told : goal.returns-in-Err-NotFound-clause-told
@@ -16,3 +17,15 @@ returns-in-Err-NotFound-clause-told g c =
     of_files (told_files g.F.Folder.files c.args.self.now.paths) (rw c.in-Err-NotFound.field-0-is at c.in-Err-NotFound.ensures.told) (λ files is.
     follow (filed s c.args.name.now (load_low files (g.M.Store.state c.args.self.now.store) c.args.name.now)) (file_text c.args.name.now Missing) Goes _ _ _ _
     (ap (file_text c.args.name.now) is.load) refl (ap state is.after) (rw c.bytes-in-Err-NotFound.ensures.value at c.reply-in-Err-NotFound.ensures.replies))
+
+pub returns-in-Ok-clause-holds : goal.returns-in-Ok-clause-holds
+returns-in-Ok-clause-holds g c = holds_memory (state_of g.M.Store.state c.args.self.now) _ c.requires.holds (c.load.ensures.laid c.requires.holds.laid) c.load.ensures.zone
+
+pub returns-in-Err-NotFound-clause-holds : goal.returns-in-Err-NotFound-clause-holds
+returns-in-Err-NotFound-clause-holds g c = holds_memory (state_of g.M.Store.state c.args.self.now) _ c.requires.holds (c.load.ensures.laid c.requires.holds.laid) c.load.ensures.zone
+
+pub returns-in-Err-NoRoom-clause-holds : goal.returns-in-Err-NoRoom-clause-holds
+returns-in-Err-NoRoom-clause-holds g c = holds_memory (state_of g.M.Store.state c.args.self.now) _ c.requires.holds (c.load.ensures.laid c.requires.holds.laid) c.load.ensures.zone
+
+pub returns-in-Err-FolderFault-clause-holds : goal.returns-in-Err-FolderFault-clause-holds
+returns-in-Err-FolderFault-clause-holds g c = holds_memory (state_of g.M.Store.state c.args.self.now) _ c.requires.holds (c.load.ensures.laid c.requires.holds.laid) c.load.ensures.zone
