@@ -3,6 +3,7 @@ pub mod Following
 pub mod Holding
 pub mod Listing
 pub mod Valuing
+pub mod Taking
 pub mod Framing
 pub mod Lining
 pub mod Loading
