@@ -9,3 +9,5 @@ pub mod HighLaying
 pub mod HighCuts
 pub mod Newest
 pub mod Ends
+pub mod ZoneLists
+pub mod ZoneLaying
