@@ -11,3 +11,5 @@ pub mod Newest
 pub mod Ends
 pub mod ZoneLists
 pub mod ZoneLaying
+pub mod ZonePlaces
+pub mod ZoneSearch
