@@ -13,3 +13,4 @@ pub mod ZoneLists
 pub mod ZoneLaying
 pub mod ZonePlaces
 pub mod ZoneSearch
+pub mod ZoneEdits

@@ -88,6 +88,7 @@ impl PlainZone {
     /// Want of memory changes nothing.
     pub fn take(&mut self, at: usize, need: u32) -> Result<Place, AllocError>
         requires header { 28 ≤ need }
+        requires inside { at < length self.old.blocks }
         requires fits { IsSomeAnd (slice_get self.old.blocks at) (λ b. need ≤ b.size) }
         ensures taken { OnOk result (self.new ≡ with_taken self.old at need) }
         ensures place { IfOk result (λ place. place.0 ≡ place_at self.old.blocks at + 24) }
@@ -95,20 +96,22 @@ impl PlainZone {
     {
         let place = self.places[at];
         let size = self.cells[at].size();
+        let payload = Place(place + 24);
         let rest = size - need;
+        let next = at + 1;
         if rest <= KEPT_REST {
             self.cells[at] = ZoneCell::used(self.alloc, size)?;
-            self.rover = at + 1;
-            return Ok(Place(place + 24));
+            self.rover = next;
+            return Ok(payload);
         }
         let used = ZoneCell::used(self.alloc, need)?;
         self.cells.reserve(1)?;
         self.places.reserve(1)?;
         self.cells[at] = used;
-        insert_reserved(&mut self.cells, at + 1, ZoneCell::free(self.alloc, rest));
-        insert_reserved(&mut self.places, at + 1, place + need);
-        self.rover = at + 1;
-        Ok(Place(place + 24))
+        insert_reserved(&mut self.cells, next, ZoneCell::free(self.alloc, rest));
+        insert_reserved(&mut self.places, next, place + need);
+        self.rover = next;
+        Ok(payload)
     }
 
     /// Frees the block at a position, and joins it with its free neighbours.
@@ -129,13 +132,18 @@ impl PlainZone {
         requires { at < length self.old.blocks }
         ensures { self.new ≡ joined_at self.old at }
     {
-        if at + 1 == self.cells.len() || self.cells[at].is_used() || self.cells[at + 1].is_used() {
+        if self.cells.len() == at + 1 {
             return;
         }
-        let size = self.cells[at].size() + self.cells[at + 1].size();
+        let first = &self.cells[at];
+        let second = &self.cells[at + 1];
+        if first.is_used() || second.is_used() {
+            return;
+        }
+        let size = first.size() + second.size();
         self.cells[at] = ZoneCell::free(self.alloc, size);
-        let _ = self.cells.remove(at + 1);
-        let _ = self.places.remove(at + 1);
+        self.cells.remove(at + 1);
+        self.places.remove(at + 1);
         if at < self.rover {
             self.rover -= 1;
         }
