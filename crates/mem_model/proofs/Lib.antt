@@ -14,3 +14,7 @@ pub mod ZoneLaying
 pub mod ZonePlaces
 pub mod ZoneSearch
 pub mod ZoneEdits
+pub mod ZoneBytes
+pub mod Untouched
+pub mod ZoneApart
+pub mod ZoneLaws

@@ -1,6 +1,6 @@
 -- Lists of zone blocks: their parts, their neighbours, and the one that is chosen.
-use Rattle.std.proofs.Common.{◌≡◌, ℕ, suc, zero, ◌+◌, ◌-◌, ◌<◌, ◌≤◌, List, [], ◌∷◌, ◌++◌, Option, Some, None, Bool, true, false, ltb, leb, cond, length, take, drop, refl, sym, ap, ◌∙◌, arith, ◌⊎◌, inl, inr, length-append, subst}
-use Rattle.std.specs.Prelude.{◌%◌, slice_get, map, IsTrue, not, ◌&&◌, min}
+use Rattle.std.proofs.Common.{◌≡◌, ℕ, suc, zero, ◌+◌, ◌-◌, ◌<◌, ◌≤◌, List, [], ◌∷◌, ◌++◌, Option, Some, None, Bool, true, false, leb, cond, length, take, drop, refl, sym, ap, ◌∙◌, arith, ◌⊎◌, inl, inr, subst}
+use Rattle.std.specs.Prelude.{◌%◌, slice_get, map, IsTrue, not, ◌&&◌}
 use Rattle.std.specs.Option.{option_map}
 use Rattle.std.specs.List.{AllByRecursion}
 use Rattle.std.proofs.lemmas.List.{length-take-le}
@@ -93,6 +93,9 @@ pub used-first : (rest : List ZoneBlock) (c : ZoneBlock) → IsTrue c.used → A
 used-first [] c h p = tt
 used-first (a ∷ others) c h p = (inl h, p)
 
+pub used-second : (b c : ZoneBlock) (rest : List ZoneBlock) → c.used ≡ true → AllNeighbours NotBothFree (c ∷ rest) → AllNeighbours NotBothFree (b ∷ c ∷ rest)
+used-second b c rest e p = (inr e, p)
+
 lesser_is : (n : ℕ) (rest : Option ℕ) (d : ℕ) → lesser n rest ≡ d → (n ≡ d) ⊎ (rest ≡ Some d)
 lesser_is n None d e = inl e
 lesser_is n (Some k) d e = elim (cases_lt k n) [
@@ -137,14 +140,14 @@ position_back z i inside rover = ring (suc (length z.blocks)) z.rover i (omega (
     ring : (n r k : ℕ) → r ≤ n → k < n → (r + (k + (n - r)) % n) % n ≡ k
     ring n r k h l = elim (cases_lt k r) [
       | inl before ↦
-        let small : (k + (n - r)) % n ≡ k + (n - r) = mod-eq_of_lt (omega arith) in
-        let whole : r + (k + (n - r)) ≡ k + n = omega arith in
-        ap (λ d. (r + d) % n) small ∙ ap (λ d. d % n) whole ∙ add-mod_right k n ∙ mod-eq_of_lt l
+          let small : (k + (n - r)) % n ≡ k + (n - r) = mod-eq_of_lt (omega arith) in
+          let whole : r + (k + (n - r)) ≡ k + n = omega arith in
+          ap (λ d. (r + d) % n) small ∙ ap (λ d. d % n) whole ∙ add-mod_right k n ∙ mod-eq_of_lt l
       | inr behind ↦
-        let whole : k + (n - r) ≡ (k - r) + n = omega arith in
-        let small : (k - r) % n ≡ k - r = mod-eq_of_lt (omega arith) in
-        let back : r + (k - r) ≡ k = omega arith in
-        ap (λ d. (r + d % n) % n) whole ∙ ap (λ d. (r + d) % n) (add-mod_right (k - r) n ∙ small) ∙ ap (λ d. d % n) back ∙ mod-eq_of_lt l
+          let whole : k + (n - r) ≡ (k - r) + n = omega arith in
+          let small : (k - r) % n ≡ k - r = mod-eq_of_lt (omega arith) in
+          let back : r + (k - r) ≡ k = omega arith in
+          ap (λ d. (r + d % n) % n) whole ∙ ap (λ d. (r + d) % n) (add-mod_right (k - r) n ∙ small) ∙ ap (λ d. d % n) back ∙ mod-eq_of_lt l
     ]
 
 mapped_some : {X Y : Type 0} (f : X → Y) (o : Option X) (y : Y) → option_map f o ≡ Some y → (x : X) × (o ≡ Some x) × (y ≡ f x)

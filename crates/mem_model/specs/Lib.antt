@@ -7,6 +7,7 @@ pub mod Cache
 pub mod Zone
 pub mod Hunk
 pub mod Operations
+pub mod Apart
 pub mod Laid
 pub mod Rows
 pub mod Told
