@@ -1,18 +1,19 @@
 -- The ring from the rover as two walks: from the rover to the end, and from the start to the rover.
 use Rattle.std.proofs.Common.{◌≡◌, ℕ, suc, zero, ◌+◌, ◌-◌, ◌<◌, ◌≤◌, List, [], ◌∷◌, ◌++◌, Option, Some, None, Bool, true, false, cond, length, take, drop, refl, sym, ap, ◌∙◌, arith}
-use Rattle.std.specs.Prelude.{◌%◌, slice_get, position, map, IfSome, IsSomeAnd}
+use Rattle.std.specs.Prelude.{◌%◌, slice_get, position, map, IfSome, IsSomeAnd, ◌^◌}
 use Rattle.std.specs.List.{AllByRecursion}
 use Rattle.std.specs.Option.{option_map}
 use Rattle.std.proofs.lemmas.List.{map-append, take-append-drop, append-nil, length-take-le, length-drop}
 use Rattle.std.proofs.lemmas.List.Quantifiers.{position-Some}
+use Rattle.std.proofs.lemmas.Option.{slice_get_within}
 use Rattle.std.proofs.Math.Nat.{mod-eq_of_lt, add-mod_right, min-eq_left, min-eq_right}
 use Rattle.mem_model.specs.Blocks.{ZoneBlock}
 use Rattle.mem_model.specs.Places.{least, lesser}
 use Rattle.mem_model.specs.Memory.{Zone}
-use Rattle.mem_model.specs.Zone.{free_positions, distance, position_after, chosen}
+use Rattle.mem_model.specs.Zone.{free_positions, distance, position_after, chosen, size_of_zone}
 use Rattle.mem_model.specs.Plain.{is_fit}
 use Rattle.mem_model.proofs.ZoneLists.{position_back, chosen_fits}
-use Rattle.mem_model.proofs.ZonePlaces.{position-cons}
+use Rattle.mem_model.proofs.ZonePlaces.{position-cons, inside_zone}
 
 free_positions-append : (i need : ℕ) (xs ys : List ZoneBlock) → free_positions i need (xs ++ ys) ≡ free_positions i need xs ++ free_positions (i + length xs) need ys
 free_positions-append i need [] ys = let same : i ≡ i + 0 = omega arith in ap (λ n. free_positions n need ys) same
@@ -133,7 +134,18 @@ chosen_before z need rover at =
     ∙ ap (option_map (position_after z)) (least_rising (distance z) 0 need front (λ i j low order high. omega (arith, distance_before n r i (omega (arith, order, high, long)) rover, distance_before n r j (omega (arith, high, long)) rover)))
     ∙ returned z front need rover (omega (arith, long, rover))
 
--- The block that is chosen is large enough.
-pub chosen_large : (z : Zone) (need : ℕ) (found : Option ℕ) → z.rover ≤ length z.blocks → found ≡ chosen z need → IfSome found (λ i. IsSomeAnd (slice_get z.blocks i) (λ b. need ≤ b.size))
-chosen_large z need None rover h = tt
-chosen_large z need (Some i) rover h = let fit = chosen_fits z need i rover (sym h) in rw fit.there fit.large
+-- The block that is chosen is one of the zone's, and large enough.
+pub record IsLarge (z : Zone) (need : ℕ) (found : Option ℕ) : Type 0 where
+  pub small : IfSome found (λ i. need ≤ 2 ^ 26)
+  pub inside : IfSome found (λ i. i < length z.blocks)
+  pub fits : IfSome found (λ i. IsSomeAnd (slice_get z.blocks i) (λ b. need ≤ b.size))
+
+pub chosen_large : (z : Zone) (need : ℕ) (found : Option ℕ) → z.rover ≤ length z.blocks → 48 + size_of_zone z.blocks ≤ 2 ^ 26 → chosen z need ≡ found → IsLarge z need found
+chosen_large z need None rover small h = record { small = tt; inside = tt; fits = tt }
+chosen_large z need (Some i) rover small h =
+    let fit = chosen_fits z need i rover h in
+    record {
+      small = omega (arith, small, fit.large, inside_zone z.blocks i fit.b fit.there);
+      inside = slice_get_within z.blocks i fit.b fit.there;
+      fits = rw fit.there fit.large;
+    }

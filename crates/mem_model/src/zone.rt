@@ -73,7 +73,9 @@ impl PlainZone {
     /// The position of the first free block of at least `need` bytes, in the ring that begins at the rover.
     pub fn chosen(&self, need: u64) -> Option<usize>
         ensures chosen { result ≡ chosen self.now need }
-        ensures fits { IfSome result (λ i. IsSomeAnd (slice_get self.now.blocks i) (λ b. need ≤ b.size)) }
+        ensures small { IfSome result (λ at. need ≤ 2 ^ 26) }
+        ensures inside { IfSome result (λ at. at < length self.now.blocks) }
+        ensures fits { IfSome result (λ at. IsSomeAnd (slice_get self.now.blocks at) (λ b. need ≤ b.size)) }
     {
         let (before, behind) = self.cells.split_at(self.rover);
         match first_fit(behind, need) {
@@ -153,7 +155,7 @@ impl PlainZone {
     pub fn position_of(&self, place: u32) -> Option<usize>
         requires { AllByRecursion IsZoneBlock self.now.blocks }
         ensures position { result ≡ position_of self.now.blocks place }
-        ensures inside { IfSome result (λ i. i < length self.now.blocks) }
+        ensures inside { IfSome result (λ at. at < length self.now.blocks) }
     {
         let places = &self.places;
         let header = place.checked_sub(24)?;
