@@ -131,7 +131,7 @@ taking_read z now places i need place len place_len b is here fits counted place
     let inside : i < length z.blocks = omega (arith, here, ap (λ (x : Zone). length x.blocks) is) in
     let there = slice_get_read z.blocks len i b counted (omega (arith, counted, inside)) read in
     let stands : Some place ≡ Some (place_at z.blocks i) =
-      sym (slice_get_read places place_len i place place_counted (omega (arith, place_counted, inside, ap length placed, length-places 48 z.blocks)) place_read) ∙ ap (λ ps. slice_get ps i) placed ∙ place_is z.blocks i inside in
+    sym (slice_get_read places place_len i place place_counted (omega (arith, place_counted, inside, ap length placed, length-places 48 z.blocks)) place_read) ∙ ap (λ ps. slice_get ps i) placed ∙ place_is z.blocks i inside in
     let same : place ≡ place_at z.blocks i = cc in
     record {
       inside = inside;
@@ -149,7 +149,7 @@ with_taken-whole z i need b x at small is =
     let next : suc i ≡ i + 1 = omega arith in
     rw (at, le-ltb 64 (b.size - need) small)
     (ap (λ n. record { blocks = replaced z.blocks i (used_block b.size ∷ []); rover = n }) next ∙ ap (λ blocks. record { blocks = blocks; rover = i + 1 })
-      (ap (λ y. take i z.blocks ++ y ∷ [] ++ drop (suc i) z.blocks) (sym is) ∙ append_assoc (take i z.blocks) (x ∷ []) (drop (suc i) z.blocks) ∙ sym (set_split z.blocks i x inside)))
+    (ap (λ y. take i z.blocks ++ y ∷ [] ++ drop (suc i) z.blocks) (sym is) ∙ append_assoc (take i z.blocks) (x ∷ []) (drop (suc i) z.blocks) ∙ sym (set_split z.blocks i x inside)))
 
 -- A block of which a free rest is split off.
 pub with_taken-split : (z : Zone) (i need : ℕ) (b x y : ZoneBlock) (blocks : List ZoneBlock) → slice_get z.blocks i ≡ Some b → 64 < b.size - need → x ≡ used_block need → y ≡ free_block (b.size - need) →

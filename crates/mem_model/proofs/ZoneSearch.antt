@@ -102,11 +102,11 @@ chosen_behind z need k rover at =
     let whole : r + length rest ≡ n = omega (arith, length-drop r z.blocks) in
     let inside = (position-Some (is_fit need) rest k (record { size = 0; used = false; bytes = [] }) at).0 in
     let far : AllByRecursion (λ d. k ≤ d) (map (distance z) (free_positions 0 need (take r z.blocks))) =
-      all_far (distance z) k 0 need (take r z.blocks) (λ j h. let before : j < r = omega (arith, h, length-take-le r z.blocks rover) in omega (arith, distance_before n r j before rover, inside, whole)) in
+    all_far (distance z) k 0 need (take r z.blocks) (λ j h. let before : j < r = omega (arith, h, length-take-le r z.blocks rover) in omega (arith, distance_before n r j before rover, inside, whole)) in
     let near : least (map (distance z) (free_positions r need rest)) ≡ Some k =
-      least_rising (distance z) r need rest (λ i j low order high. omega (arith, distance_behind n r i low (omega (arith, order, high, whole)) rover, distance_behind n r j (omega (arith, low, order)) (omega (arith, high, whole)) rover))
-      ∙ ap (option_map (λ d. distance z (r + d))) at
-      ∙ ap Some (omega (arith, distance_behind n r (r + k) (omega arith) (omega (arith, inside, whole)) rover)) in
+    least_rising (distance z) r need rest (λ i j low order high. omega (arith, distance_behind n r i low (omega (arith, order, high, whole)) rover, distance_behind n r j (omega (arith, low, order)) (omega (arith, high, whole)) rover))
+    ∙ ap (option_map (λ d. distance z (r + d))) at
+    ∙ ap Some (omega (arith, distance_behind n r (r + k) (omega arith) (omega (arith, inside, whole)) rover)) in
     let back : position_after z k ≡ r + k = mod-eq_of_lt (omega (arith, inside, whole)) in
     ap (λ ds. option_map (position_after z) (least ds)) (parts z need rover) ∙ ap (option_map (position_after z)) (least_behind _ _ k far near) ∙ ap Some back
 
@@ -129,7 +129,7 @@ chosen_before z need rover at =
     let long = length-take-le r z.blocks rover in
     let none : map (distance z) (free_positions r need (drop r z.blocks)) ≡ [] = ap (map (distance z)) (none_fits r need (drop r z.blocks) at) in
     let alone : map (distance z) (free_positions 0 need z.blocks) ≡ map (distance z) (free_positions 0 need front) =
-      parts z need rover ∙ ap (λ ds. map (distance z) (free_positions 0 need front) ++ ds) none ∙ append-nil _ in
+    parts z need rover ∙ ap (λ ds. map (distance z) (free_positions 0 need front) ++ ds) none ∙ append-nil _ in
     ap (λ ds. option_map (position_after z) (least ds)) alone
     ∙ ap (option_map (position_after z)) (least_rising (distance z) 0 need front (λ i j low order high. omega (arith, distance_before n r i (omega (arith, order, high, long)) rover, distance_before n r j (omega (arith, high, long)) rover)))
     ∙ returned z front need rover (omega (arith, long, rover))
