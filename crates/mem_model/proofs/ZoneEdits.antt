@@ -51,17 +51,17 @@ neighbours_read z now len i b c is counted here more first second =
       second = slice_get_read z.blocks len (suc i) c counted (omega (arith, counted, here, more, same)) (second ∙ ap (λ n. get_or z.blocks n c) next);
     }
 
--- What is left of a zone's list and its places where two free neighbours were joined.
-pub record IsLeft (z : Zone) (i : ℕ) (places : List ℕ) (blocks : List ZoneBlock) : Type 0 where
+-- A zone's list and its places where two free neighbours were joined.
+pub record IsMerged (z : Zone) (i : ℕ) (places : List ℕ) (blocks : List ZoneBlock) : Type 0 where
   pub places_are : places ≡ places_from 48 blocks
   pub small : 48 + size_of_zone blocks ≤ 2 ^ 26
   pub fewer : length blocks + 1 ≡ length z.blocks
   pub inside : i < length blocks
   pub joined : joined_at z i ≡ record { blocks = blocks; rover = if ltb i z.rover then z.rover - 1 else z.rover }
 
-pub joined_left : (z : Zone) (i : ℕ) (b c x : ZoneBlock) (before places : List ℕ) (blocks : List ZoneBlock) → AreNeighbours z i b c → b.used ≡ false → c.used ≡ false → x ≡ free_block (b.size + c.size) →
-    before ≡ places_from 48 z.blocks → 48 + size_of_zone z.blocks ≤ 2 ^ 26 → blocks ≡ remove (set z.blocks i x) (i + 1) → places ≡ remove before (i + 1) → IsLeft z i places blocks
-joined_left z i b c x before places blocks read free next_free x_is placed small blocks_are places_are =
+pub merged : (z : Zone) (i : ℕ) (b c x : ZoneBlock) (before places : List ℕ) (blocks : List ZoneBlock) → AreNeighbours z i b c → b.used ≡ false → c.used ≡ false → x ≡ free_block (b.size + c.size) →
+    before ≡ places_from 48 z.blocks → 48 + size_of_zone z.blocks ≤ 2 ^ 26 → blocks ≡ remove (set z.blocks i x) (i + 1) → places ≡ remove before (i + 1) → IsMerged z i places blocks
+merged z i b c x before places blocks read free next_free x_is placed small blocks_are places_are =
     let one = joined_is z.blocks i b c x read.inside read.first read.second (ap (λ (y : ZoneBlock). y.size) x_is) in
     let count = length-remove (set z.blocks i x) (i + 1) (omega (arith, length-set z.blocks i x, read.inside)) in
     record {
@@ -72,11 +72,11 @@ joined_left z i b c x before places blocks read free next_free x_is placed small
       joined = joined_at-free z i b c blocks read.first read.second free next_free (blocks_are ∙ one.blocks_are ∙ ap (λ y. take i z.blocks ++ y ∷ drop (suc (suc i)) z.blocks) x_is);
     }
 
-pub joined_rover_behind : {z : Zone} {i : ℕ} {places : List ℕ} {blocks : List ZoneBlock} → IsLeft z i places blocks → i < z.rover → joined_at z i ≡ record { blocks = blocks; rover = z.rover - 1 }
-joined_rover_behind {z} {i} {places} {blocks} left behind = left.joined ∙ ap (λ t. record { blocks = blocks; rover = if t then z.rover - 1 else z.rover }) (lt-ltb i z.rover behind)
+pub joined_rover_behind : {z : Zone} {i : ℕ} {places : List ℕ} {blocks : List ZoneBlock} → IsMerged z i places blocks → i < z.rover → joined_at z i ≡ record { blocks = blocks; rover = z.rover - 1 }
+joined_rover_behind {z} {i} {places} {blocks} joint behind = joint.joined ∙ ap (λ t. record { blocks = blocks; rover = if t then z.rover - 1 else z.rover }) (lt-ltb i z.rover behind)
 
-pub joined_rover_before : {z : Zone} {i : ℕ} {places : List ℕ} {blocks : List ZoneBlock} → IsLeft z i places blocks → z.rover ≤ i → joined_at z i ≡ record { blocks = blocks; rover = z.rover }
-joined_rover_before {z} {i} {places} {blocks} left before = left.joined ∙ ap (λ t. record { blocks = blocks; rover = if t then z.rover - 1 else z.rover }) (le-ltb i z.rover before)
+pub joined_rover_before : {z : Zone} {i : ℕ} {places : List ℕ} {blocks : List ZoneBlock} → IsMerged z i places blocks → z.rover ≤ i → joined_at z i ≡ record { blocks = blocks; rover = z.rover }
+joined_rover_before {z} {i} {places} {blocks} joint before = joint.joined ∙ ap (λ t. record { blocks = blocks; rover = if t then z.rover - 1 else z.rover }) (le-ltb i z.rover before)
 
 -- A join leaves the block at the position.
 pub joined_inside : (z : Zone) (i : ℕ) → i < length z.blocks → i < length (joined_at z i).blocks

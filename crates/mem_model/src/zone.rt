@@ -1,9 +1,11 @@
 //! The zone of a plain store: blocks in rising order of place, and a rover.
 
-ghost use Rattle.std.specs.Prelude.{◌≡◌, ◌+◌, ◌^◌, ◌<◌, ◌≤◌, ◌∷◌, [], List, ℕ, length, slice_get, position, IfOk, OnOk, OnErr, IfSome, IsSome, IsSomeAnd, Some};
+ghost use Rattle.std.specs.Prelude.{◌≡◌, ◌+◌, ◌^◌, ◌<◌, ◌≤◌, ◌∷◌, [], length, slice_get, position};
+ghost use Rattle.std.specs.Prelude.{IfOk, OnOk, OnErr, IfSome, IsSome, IsSomeAnd, Some};
 ghost use Rattle.std.specs.Borrow.{sem, Lends, u8 as byte, Array};
 ghost use Rattle.std.specs.List.{AllByRecursion};
-ghost use Rattle.mem_model.specs.Zone.{chosen, with_taken, with_free, joined_at, position_of, place_at, rover_place, free_block, used_bytes_from};
+ghost use Rattle.mem_model.specs.Zone.{chosen, with_taken, with_free, joined_at, position_of, place_at, rover_place};
+ghost use Rattle.mem_model.specs.Zone.{free_block, used_bytes_from};
 ghost use Rattle.mem_model.specs.ZoneState.{with_zone_payload};
 ghost use Rattle.mem_model.specs.Laid.{IsZoneBlock};
 ghost use Rattle.mem_model.specs.Plain.{is_fit, IsUsedAt};
@@ -19,7 +21,10 @@ use std::marker::Model;
 // A rest of at most this many bytes stays with the block from which another would be cut.
 const KEPT_REST: u32 = 64;
 
-// The header's place to which a rover behind the last block counts.
+// A block's header, behind which its payload begins.
+const HEADER: u32 = 24;
+
+// Where a rover behind the last block counts as standing: in the zone's own header.
 const CAP: u32 = 20;
 
 /// The blocks of a zone, which tile it from place 48 on, and its rover.
@@ -98,7 +103,7 @@ impl PlainZone {
     {
         let place = self.places[at];
         let size = self.cells[at].size();
-        let payload = Place(place + 24);
+        let payload = Place(place + HEADER);
         let rest = size - need;
         let next = at + 1;
         if rest <= KEPT_REST {
@@ -158,7 +163,7 @@ impl PlainZone {
         ensures inside { IfSome result (λ at. at < length self.now.blocks) }
     {
         let places = &self.places;
-        let header = place.checked_sub(24)?;
+        let header = place.checked_sub(HEADER)?;
         places.binary_search(&header).ok()
     }
 
@@ -195,7 +200,8 @@ impl PlainZone {
     pub fn bytes_mut(&mut self, place: u32) -> &mut [u8]
         requires there { IsSome (used_bytes_from 48 self.old.blocks place) }
         requires laid { AllByRecursion IsZoneBlock self.old.blocks }
-        ensures* writes_back { sem 𝓛 (Lends zone_of_row (Array byte 0) self.entry result (with_zone_payload self.old place)) }
+        ensures* writes_back { sem 𝓛 (Lends zone_of_row (Array byte 0) self.entry result
+            (with_zone_payload self.old place)) }
         ensures shows { used_bytes_from 48 self.old.blocks place ≡ Some result.now }
     {
         let at = self.used_position(place);
