@@ -1,5 +1,5 @@
 -- What the steps of an allocation and of a freeing make of a zone's list.
-use Rattle.std.proofs.Common.{◌≡◌, ◌≢◌, ℕ, suc, zero, ◌+◌, ◌-◌, ◌<◌, ◌≤◌, List, [], ◌∷◌, ◌++◌, Option, Some, None, Bool, true, false, cond, ltb, length, take, drop, set, get_or, refl, sym, ap, ◌∙◌, arith, lt-ltb, length-set, length-append}
+use Rattle.std.proofs.Common.{◌≡◌, ◌≢◌, ℕ, suc, zero, ◌+◌, ◌-◌, ◌<◌, ◌≤◌, List, [], ◌∷◌, ◌++◌, Option, Some, None, true, false, cond, ltb, length, take, drop, set, get_or, refl, sym, ap, ◌∙◌, arith, lt-ltb, length-set, length-append}
 use Rattle.std.specs.Prelude.{slice_get, if◌then◌else◌, ◌^◌, not, ◌&&◌, IsSomeAnd}
 use Rattle.std.specs.List.{insert, remove}
 use Rattle.std.proofs.lemmas.Bool.{le-ltb}
@@ -8,8 +8,8 @@ use Rattle.std.proofs.lemmas.List.Edits.{length-remove, length-insert}
 use Rattle.std.proofs.lemmas.Option.{slice_get_past, slice_get_within, slice_get_read}
 use Rattle.mem_model.specs.Blocks.{ZoneBlock}
 use Rattle.mem_model.specs.Memory.{Zone}
-use Rattle.mem_model.specs.Zone.{free_block, used_block, taken, replaced, with_taken, joined, joined_at, freed_at, with_free, places_from, size_of_zone, place_at}
-use Rattle.mem_model.proofs.ZonePlaces.{IsSplit, split_is, IsJoined, joined_is, length-places, place_is, inside_zone}
+use Rattle.mem_model.specs.Zone.{free_block, used_block, replaced, with_taken, joined, joined_at, freed_at, with_free, places_from, size_of_zone, place_at}
+use Rattle.mem_model.proofs.ZonePlaces.{split_is, joined_is, length-places, place_is, inside_zone}
 
 alone : (z : Zone) (i : ℕ) (o : Option ZoneBlock) → joined z i o None ≡ z
 alone z i None = refl

@@ -1,5 +1,5 @@
 -- Where the blocks of a zone stand, also after edits of their list.
-use Rattle.std.proofs.Common.{◌≡◌, ◌≢◌, ℕ, suc, zero, ◌+◌, ◌-◌, ◌<◌, ◌≤◌, List, [], ◌∷◌, ◌++◌, Option, Some, None, Bool, true, false, cond, ltb, eqb, length, take, drop, set, get_or, refl, sym, ap, ◌∙◌, arith, add-one, lt-ltb, inl, inr}
+use Rattle.std.proofs.Common.{◌≡◌, ◌≢◌, ℕ, suc, zero, ◌+◌, ◌<◌, ◌≤◌, List, [], ◌∷◌, ◌++◌, Option, Some, None, Bool, true, false, cond, ltb, length, take, drop, set, get_or, refl, sym, ap, ◌∙◌, arith, add-one, lt-ltb, inl, inr}
 use Rattle.std.specs.Prelude.{slice_get, position, MatchResult, Result, Ok, Err, not, nat_eq, IfSome, IsSome}
 use Rattle.std.specs.Result.{result_ok}
 use Rattle.std.specs.List.{AllByRecursion, insert, remove, prefix_len}
@@ -9,15 +9,12 @@ use Rattle.std.proofs.lemmas.List.Sorted.{searched}
 use Rattle.std.specs.Option.{option_map}
 use Rattle.std.proofs.lemmas.Bool.{cases_lt, le-ltb, ne_eqb, eq-eqb}
 use Rattle.std.proofs.lemmas.Bool.Decides.{eqb_tells}
-use Rattle.std.proofs.lemmas.Option.{slice_get-get_or, slice_get_past}
+use Rattle.std.proofs.lemmas.Option.{slice_get-get_or}
 use Rattle.mem_model.specs.Blocks.{ZoneBlock}
-use Rattle.mem_model.specs.Memory.{Zone}
-use Rattle.mem_model.specs.Hunk.{over}
 use Rattle.mem_model.specs.Zone.{size_of_zone, places_from, place_at, position_of, rover_place, used_bytes, used_bytes_from, with_payload, with_payload_from}
 use Rattle.mem_model.specs.Laid.{IsZoneBlock}
 use Rattle.mem_model.specs.Plain.{IsUsedAt}
 use Rattle.mem_model.specs.Rows.{zone_row, zone_rows_up}
-use Rattle.mem_model.specs.Told.{row_answer}
 
 pub length-places : (start : ℕ) (blocks : List ZoneBlock) → length (places_from start blocks) ≡ length blocks
 length-places start [] = refl

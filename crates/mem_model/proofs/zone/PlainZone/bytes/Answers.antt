@@ -1,4 +1,4 @@
-use Rattle.std.proofs.Common.{◌<◌, arith}
+use Rattle.std.proofs.Common.{arith}
 use Rattle.std.proofs.lemmas.Option.{slice_get_read}
 use Rattle.mem_model.specs.Plain.{IsUsedAt}
 use Rattle.mem_model.proofs.zone.PlainZone.bytes.Goals as goal

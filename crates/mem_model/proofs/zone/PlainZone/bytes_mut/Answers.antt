@@ -2,7 +2,6 @@ use Rattle.std.proofs.Common.{◌≡◌, Some, List, ap, sym, refl, length-set, 
 use Rattle.std.specs.Prelude.{slice_get}
 use Rattle.std.proofs.lemmas.Option.{slice_get_read}
 use Rattle.mem_model.specs.Blocks.{ZoneBlock}
-use Rattle.mem_model.specs.Memory.{Zone}
 use Rattle.mem_model.specs.Zone.{with_payload}
 use Rattle.mem_model.specs.ZoneState.{zone_of}
 use Rattle.mem_model.proofs.ZonePlaces.{places-set, size_of_zone-set}

@@ -3,7 +3,7 @@ use Rattle.std.specs.Prelude.{position, take, drop}
 use Rattle.mem_model.specs.Zone.{chosen}
 use Rattle.mem_model.specs.Plain.{is_fit}
 use Rattle.mem_model.specs.ZoneState.{zone_of}
-use Rattle.mem_model.proofs.ZoneSearch.{chosen_behind, chosen_before, IsLarge, chosen_large}
+use Rattle.mem_model.proofs.ZoneSearch.{chosen_behind, chosen_before, chosen_large}
 use Rattle.mem_model.proofs.zone.PlainZone.chosen.Goals as goal
 
 behind : (c : goal.In-Some) → chosen (zone_of c.self.inside) c.args.need ≡ Some (c.self.inside.rover + c.in-Some.at)

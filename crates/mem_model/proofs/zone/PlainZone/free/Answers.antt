@@ -1,8 +1,8 @@
-use Rattle.std.proofs.Common.{◌≡◌, ◌∙◌, ◌-◌, ◌<◌, Some, length, refl, ap, sym, arith, length-set}
+use Rattle.std.proofs.Common.{◌≡◌, ◌∙◌, ◌<◌, Some, length, refl, ap, sym, arith, length-set}
 use Rattle.std.specs.Prelude.{slice_get}
 use Rattle.std.proofs.lemmas.Option.{slice_get_read}
 use Rattle.mem_model.specs.Memory.{Zone}
-use Rattle.mem_model.specs.Zone.{free_block, joined_at}
+use Rattle.mem_model.specs.Zone.{free_block}
 use Rattle.mem_model.specs.ZoneState.{zone_of}
 use Rattle.mem_model.proofs.ZonePlaces.{places-set, size_of_zone-set}
 use Rattle.mem_model.proofs.ZoneEdits.{with_block_at, joined_inside, with_free-first, with_free-later}

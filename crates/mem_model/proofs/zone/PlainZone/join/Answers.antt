@@ -1,15 +1,10 @@
-use Rattle.std.proofs.Common.{◌≡◌, ◌+◌, ◌<◌, ◌≤◌, ◌∙◌, Some, true, false, suc, length, ap, sym, refl, arith, add-one, set, length-set, lt-ltb, rules}
-use Rattle.std.specs.Prelude.{slice_get}
+use Rattle.std.proofs.Common.{◌≡◌, ◌+◌, ◌∙◌, length, ap, sym, arith, set}
 use Rattle.std.specs.List.{remove}
-use Rattle.std.proofs.lemmas.Bool.{le-ltb}
-use Rattle.std.proofs.lemmas.List.Edits.{length-remove}
-use Rattle.std.proofs.lemmas.Option.{slice_get_read}
-use Rattle.mem_model.specs.Blocks.{ZoneBlock}
 use Rattle.mem_model.specs.Memory.{Zone}
-use Rattle.mem_model.specs.Zone.{joined_at, free_block}
+use Rattle.mem_model.specs.Zone.{free_block}
 use Rattle.mem_model.specs.ZoneState.{zone_of}
-use Rattle.mem_model.proofs.ZonePlaces.{length-places, both_inside, IsJoined, joined_is}
-use Rattle.mem_model.proofs.ZoneEdits.{AreNeighbours, neighbours_read, joined_at-last, joined_at-used, joined_at-next_used, IsMerged, merged, joined_rover_behind, joined_rover_before}
+use Rattle.mem_model.proofs.ZonePlaces.{length-places, both_inside}
+use Rattle.mem_model.proofs.ZoneEdits.{neighbours_read, joined_at-last, joined_at-used, joined_at-next_used, IsMerged, merged, joined_rover_behind, joined_rover_before}
 use Rattle.mem_model.proofs.zone.PlainZone.join.Goals as goal
 use Rattle.mem_model.proofs.zone.PlainZone.join.Goals.{After-remove-2, then-is_used-via-then-is_used, then-is_used-via-else-is_used+then-is_used-2}
 

@@ -1,9 +1,9 @@
 use Rattle.std.proofs.Common.{◌≡◌, ◌+◌, ◌-◌, ◌<◌, ◌≤◌, ◌∙◌, set, length, ap, sym, refl, arith, length-set}
 use Rattle.std.specs.List.{insert}
 use Rattle.mem_model.specs.Memory.{Zone}
-use Rattle.mem_model.specs.Zone.{place_at, with_taken, used_block, free_block}
+use Rattle.mem_model.specs.Zone.{used_block, free_block}
 use Rattle.mem_model.specs.ZoneState.{zone_of}
-use Rattle.mem_model.proofs.ZonePlaces.{length-places, places-set, size_of_zone-set, IsSplit, split_is}
+use Rattle.mem_model.proofs.ZonePlaces.{length-places, places-set, size_of_zone-set}
 use Rattle.mem_model.proofs.ZoneEdits.{IsTaking, taking_read, with_taken-whole, IsCutOff, cut_off}
 use Rattle.mem_model.proofs.zone.PlainZone.take.Goals as goal
 use Rattle.mem_model.proofs.zone.PlainZone.take.Goals.{After-size-size, After-insert_reserved-2}
