@@ -1,11 +1,11 @@
 -- Worked examples, on a memory of 65536 bytes with a zone of 49152 and 8 users. Its low hunk ends at 49168.
-use Rattle.std.proofs.Common.{◌≡◌, ℕ, List, [], ◌∷◌, Bool, Some, None, Ok, Err, refl, true, false, map}
+use Rattle.std.proofs.Common.{◌≡◌, ℕ, List, [], ◌∷◌, Bool, Some, None, Ok, Err, refl, true, false, map, replicate}
 use Rattle.mem_model.specs.Event.{Event.LowAlloc, Event.TempAlloc, Event.HighMark, Event.LowFree, FreeRefusal.NotZone, FreeRefusal.AlreadyFree, CacheRefusal.Occupied, CacheRefusal.BadSize, CacheRefusal.NoRoom}
 use Rattle.mem_model.specs.Memory.{Memory, new_memory, room}
 use Rattle.mem_model.specs.Places.{fit, hop}
 use Rattle.mem_model.specs.Cache.{hopped, up_in, pushed_up, down_in, pushed_down, evictions, with_new, peek_place}
-use Rattle.mem_model.specs.Zone.{chosen, with_taken, joined_at, with_free, position_of}
-use Rattle.mem_model.specs.Hunk.{with_low, with_high, without_temp}
+use Rattle.mem_model.specs.Zone.{chosen, with_taken, joined_at, with_free, position_of, zone_bytes, with_zone_bytes, rover_place}
+use Rattle.mem_model.specs.Hunk.{with_low, with_high, without_temp, over}
 use Rattle.mem_model.specs.Operations.{low_alloc, low_free, high_taken, high_alloc, high_free, high_mark, temp_alloc, z_alloc, z_free, cache_alloc, check, cache_free, flush}
 
 abbrev fresh : Memory
@@ -62,6 +62,16 @@ unfolding z_alloc chosen with_taken z_free with_free joined_at position_of
 zone_joins_next = refl
 
 -- the middle one is joined on both sides
+-- A used block has its bytes, by the place of its payload, and a free one none. A write past their end is cut.
+zone_shows : (zone_bytes outer_free 112 ≡ Some (replicate 12 0)) × (zone_bytes outer_free 72 ≡ None) × (zone_bytes (with_zone_bytes outer_free 112 (1 ∷ replicate 14 2)) 112 ≡ Some (1 ∷ replicate 11 2))
+unfolding z_alloc chosen with_taken z_free with_free joined_at position_of zone_bytes with_zone_bytes over
+zone_shows = (refl, refl, refl)
+
+-- The rover stands on the first block of a new zone, on the rest behind the newest, and on the cap behind all.
+rover_stands : (rover_place fresh.zone ≡ 48) × (rover_place three.zone ≡ 168) × (rover_place (z_alloc fresh 49028).after.zone ≡ 20)
+unfolding z_alloc chosen with_taken rover_place
+rover_stands = (refl, refl, refl)
+
 abbrev all_free : Memory
 all_free = (z_free outer_free 112).after
 

@@ -106,6 +106,10 @@ of_some : (o : Option (List ℕ)) → IsSome o → (bytes : List ℕ) × (o ≡ 
 of_some None h = absurd (cc)
 of_some (Some bytes) h = (bytes, refl)
 
+-- The same as an equation, which the search takes further.
+pub same-z_alloc : (m : Memory) (size place : ℕ) → Laid m → IsSome (zone_bytes m place) → zone_bytes (z_alloc m size).after place ≡ zone_bytes m place
+same-z_alloc m size place laid h = let some = of_some (zone_bytes m place) h in zone_bytes-z_alloc m size place some.0 laid some.1 ∙ sym some.1
+
 -- A used block stays used at an allocation.
 pub some-z_alloc : (m : Memory) (size place : ℕ) → Laid m → IsSome (zone_bytes m place) → IsSome (zone_bytes (z_alloc m size).after place)
 some-z_alloc m size place laid h = let some = of_some (zone_bytes m place) h in is_some_of _ some.0 (zone_bytes-z_alloc m size place some.0 laid some.1)
@@ -180,6 +184,9 @@ pub zone_bytes-z_free : (m : Memory) (place other : ℕ) (bytes : List ℕ) → 
 unfolding z_free zone_bytes
 zone_bytes-z_free m place other bytes laid apart h =
     ap (λ (z : Zone). used_bytes_from 48 z.blocks other) (zone-with_event _ _) ∙ kept_freed m place other (position_of m.zone.blocks place) bytes laid refl apart h
+
+pub same-z_free : (m : Memory) (place other : ℕ) → Laid m → other ≢ place → IsSome (zone_bytes m other) → zone_bytes (z_free m place).after other ≡ zone_bytes m other
+same-z_free m place other laid apart h = let some = of_some (zone_bytes m other) h in zone_bytes-z_free m place other some.0 laid apart some.1 ∙ sym some.1
 
 pub some-z_free : (m : Memory) (place other : ℕ) → Laid m → other ≢ place → IsSome (zone_bytes m other) → IsSome (zone_bytes (z_free m place).after other)
 some-z_free m place other laid apart h = let some = of_some (zone_bytes m other) h in is_some_of _ some.0 (zone_bytes-z_free m place other some.0 laid apart some.1)
@@ -262,8 +269,8 @@ pub AreUsed-same : (m n : Memory) (places : List ℕ) → n.zone ≡ m.zone → 
 AreUsed-same m n [] same used = tt
 AreUsed-same m n (place ∷ places) same used = (subst (λ o. IsSome o) (zone_bytes-same m n place (sym same)) used.0, AreUsed-same m n places same used.1)
 
--- for callers: `#[tactic(auto, using(mem_model::proofs::ZoneLaws::zone_laws))]`
-pub ruleset zone_laws = (Laid-z_alloc, Laid-z_free, Laid-with_zone_bytes, zone_bytes-z_alloc, some-z_alloc, some-z_new, length-z_new, zone_place_apart, z_free-used, zone_bytes-z_free, some-z_free, zone_bytes-written, zone_bytes-elsewhere, some-with_zone_bytes, zone_bytes-inside, zone_bytes-small, NoneIs-z_new, AreUsed-z_alloc, AreUsed-z_free, AreUsed-with_zone_bytes, places-small)
+-- for callers of the zone: `#[tactic(auto, using(mem_model::proofs::ZoneLaws::zone_laws))]`
+pub ruleset zone_laws = (Laid-z_alloc, Laid-z_free, Laid-with_zone_bytes, same-z_alloc, some-z_alloc, some-z_new, length-z_new, zone_place_apart, z_free-used, same-z_free, some-z_free, zone_bytes-written, zone_bytes-elsewhere, some-with_zone_bytes, zone_bytes-inside, zone_bytes-small, NoneIs-z_new, AreUsed-z_alloc, AreUsed-z_free, AreUsed-with_zone_bytes, places-small, low_bytes-z_alloc, low_bytes-z_free, low_bytes-with_zone_bytes, temp_bytes-z_alloc, temp_bytes-z_free, temp_bytes-with_zone_bytes, size-z_alloc, size-z_free, size-with_zone_bytes)
 
--- for callers of the hunks and the zone: what each leaves of the other
-pub ruleset apart_laws = (size-z_alloc, low-z_alloc, high-z_alloc, temp-z_alloc, low_bytes-z_alloc, temp_bytes-z_alloc, size-z_free, low-z_free, high-z_free, temp-z_free, low_bytes-z_free, temp_bytes-z_free, size-with_zone_bytes, low-with_zone_bytes, high-with_zone_bytes, temp-with_zone_bytes, low_bytes-with_zone_bytes, temp_bytes-with_zone_bytes, zone-low_alloc, zone-low_free, zone-without_temp, zone-high_alloc, zone-high_free, zone-high_mark, zone-temp_alloc, zone-with_low_bytes, zone-with_temp_bytes, zone_bytes-low_alloc, zone_bytes-low_free, zone_bytes-without_temp, zone_bytes-high_alloc, zone_bytes-high_free, zone_bytes-high_mark, zone_bytes-temp_alloc, zone_bytes-with_low_bytes, zone_bytes-with_temp_bytes)
+-- for callers of the hunks: what their calls leave of the zone, and the zone's of the hunks
+pub ruleset apart_laws = (zone_bytes-low_alloc, zone_bytes-low_free, zone_bytes-without_temp, zone_bytes-high_alloc, zone_bytes-high_free, zone_bytes-high_mark, zone_bytes-temp_alloc, zone_bytes-with_low_bytes, zone_bytes-with_temp_bytes, zone-low_alloc, zone-low_free, zone-without_temp, zone-high_alloc, zone-high_free, zone-high_mark, zone-temp_alloc, zone-with_low_bytes, zone-with_temp_bytes, low-z_alloc, high-z_alloc, temp-z_alloc, low-z_free, high-z_free, temp-z_free, low-with_zone_bytes, high-with_zone_bytes, temp-with_zone_bytes)
