@@ -1,1 +1,3 @@
-pub mod Listing
+mod Listing
+mod Setting
+pub mod CvarLaws

@@ -2,6 +2,7 @@
 #![tactic(auto)]
 
 ghost use Rattle.std.specs.Prelude.{◌≡◌, ℕ, ◌<◌, ◌^◌, Some, None, MatchOption, is_some, IfSome, IfOk, OnErr, length, take, position, bytes_eq};
+ghost use Rattle.std.specs.Option.{option_map};
 ghost use Rattle.mem_model.specs.Answer.{Gives};
 ghost use Rattle.mem_model.specs.Laid.{Laid, IsText};
 ghost use Rattle.cvar_table.specs.Cvars.{defaults, created, cvar_of, cvar_value, set_cvar, HoldsCvars};
@@ -70,11 +71,21 @@ impl Cvars {
         Ok(Cvars { places })
     }
 
+    // Where the value of the cvar of exactly this name is.
+    fn place(&self, name: &[u8]) -> Option<Place>
+        ensures { option_map (λ cvar. cvar.place) (cvar_of self.now name.now) ≡ option_map (λ place. place.0) result }
+    {
+        match position_of(name) {
+            Some(at) => Some(self.places[at]),
+            None => None,
+        }
+    }
+
     /// Whether a cvar has exactly this name.
     pub fn contains(&self, name: &[u8]) -> bool
         ensures { result ≡ is_some (cvar_of self.now name.now) }
     {
-        position_of(name).is_some()
+        self.place(name).is_some()
     }
 
     /// The value of the cvar of exactly this name, without the zero that ends it: `None` exactly where none has the name.
@@ -85,8 +96,8 @@ impl Cvars {
         ensures none { is_some result ≡ is_some (cvar_of self.now name.now) }
         ensures text { IfSome result (λ value. IsText value.now) }
     {
-        match position_of(name) {
-            Some(at) => Some(value_at(store, self.places[at])),
+        match self.place(name) {
+            Some(place) => Some(value_at(store, place)),
             None => None,
         }
     }

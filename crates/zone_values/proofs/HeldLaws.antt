@@ -109,6 +109,18 @@ AreHeld-turned m xs ys held =
       apart = apart_joined ys xs (record { front = parts.back; back = parts.front; between = among_turned xs ys parts.between });
     }
 
+-- A place may come before those that it stands among.
+pub AreHeld-first : (m : Memory) (place : ℕ) (xs ys : List ℕ) → AreHeld m (xs ++ place ∷ ys) → AreHeld m (place ∷ (xs ++ ys))
+AreHeld-first m place xs ys held =
+    let turned = AreHeld-turned m xs (place ∷ ys) held in
+    let used = used_parts m ys xs turned.used.1 in
+    let none = none_parts place ys xs turned.apart.0 in
+    let parts = apart_parts ys xs turned.apart.1 in
+    record {
+      used = (turned.used.0, used_joined m xs ys used.1 used.0);
+      apart = (none_joined place xs ys none.1 none.0, apart_joined xs ys (record { front = parts.back; back = parts.front; between = among_turned ys xs parts.between }));
+    }
+
 -- Some of held places are held.
 pub AreHeld-front : (m : Memory) (xs ys : List ℕ) → AreHeld m (xs ++ ys) → AreHeld m xs
 AreHeld-front m xs ys held = record { used = (used_parts m xs ys held.used).0; apart = (apart_parts xs ys held.apart).front }
