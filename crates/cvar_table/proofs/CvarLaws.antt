@@ -15,6 +15,8 @@ use Rattle.zone_values.specs.Values.{value_at, put_value, replace_value}
 use Rattle.zone_values.proofs.ValueLaws.{Laid-replace_value, zone_bytes-replace_value, value_at-replace_value, replace_value-refusal, size-replace_value, low-replace_value, high-replace_value, temp-replace_value}
 use Rattle.zone_values.proofs.HeldLaws.{AreHeld-same, AreHeld-kept, AreHeld-replace_value}
 use Rattle.cvar_table.specs.Cvars.{Cvar, cvar_of, cvar_value, with_place, CvarSet, set_cvar, set_found, set_by, places_of, HoldsCvars}
+use Rattle.mem_model.proofs.Untouched.{zone_bytes-same}
+use Rattle.cvar_table.proofs.Listing.{some-place}
 use Rattle.cvar_table.proofs.Setting.{IsPlaced, placed_at, cvar_of-with_place, cvar_of-elsewhere, is_some-with_place, none_of_cvar, cvars_apart}
 
 -- Cvars stay held where each used block keeps its bytes,
@@ -90,3 +92,98 @@ AreHeld-set_cvar m cvars name value others laid held =
 
 pub HoldsCvars-set_cvar : (m : Memory) (cvars : List Cvar) (name value : List ℕ) → Laid m → HoldsCvars m cvars → HoldsCvars (set_cvar m cvars name value).given.after (set_cvar m cvars name value).cvars
 HoldsCvars-set_cvar m cvars name value laid holds = subst (λ ps. AreHeld (set_cvar m cvars name value).given.after ps) (append-nil _) (AreHeld-set_cvar m cvars name value [] laid (subst (λ ps. AreHeld m ps) (sym (append-nil _)) holds))
+
+-- A refusal tells what the block needs, and leaves the zone and the cvars.
+pub set_cvar-refusal : (m : Memory) (cvars : List Cvar) (name value : List ℕ) (told : ℕ) → (set_cvar m cvars name value).given.answer ≡ Err told →
+    (told ≡ zone_need (length value + 1)) × ((set_cvar m cvars name value).given.after.zone ≡ m.zone) × ((set_cvar m cvars name value).cvars ≡ cvars)
+set_cvar-refusal m cvars name value told =
+    set_cases (λ s. s.given.answer ≡ Err told → (told ≡ zone_need (length value + 1)) × (s.given.after.zone ≡ m.zone) × (s.cvars ≡ cvars)) m cvars name value
+    (λ h e. absurd (cc))
+    (λ cvar asked h k e. (let same : asked ≡ told = cc in let refusal = replace_value-refusal m value cvar.place asked k in (sym same ∙ refusal.0, refusal.1, refl)))
+    (λ cvar place h k e. absurd (cc))
+
+-- `false` is the answer exactly where no cvar has the name, and then nothing changes.
+pub set_cvar-false : (m : Memory) (cvars : List Cvar) (name value : List ℕ) → (set_cvar m cvars name value).given.answer ≡ Ok false →
+    (cvar_of cvars name ≡ None) × ((set_cvar m cvars name value).given.after ≡ m) × ((set_cvar m cvars name value).cvars ≡ cvars)
+set_cvar-false m cvars name value =
+    set_cases (λ s. s.given.answer ≡ Ok false → (cvar_of cvars name ≡ None) × (s.given.after ≡ m) × (s.cvars ≡ cvars)) m cvars name value
+    (λ h e. (h, refl, refl))
+    (λ cvar told h k e. absurd (cc))
+    (λ cvar place h k e. absurd (cc))
+
+-- No name comes or goes.
+pub is_some-set_cvar : (m : Memory) (cvars : List Cvar) (name value other : List ℕ) → is_some (cvar_of (set_cvar m cvars name value).cvars other) ≡ is_some (cvar_of cvars other)
+is_some-set_cvar m cvars name value other =
+    set_cases (λ s. is_some (cvar_of s.cvars other) ≡ is_some (cvar_of cvars other)) m cvars name value
+    (λ h. refl) (λ cvar told h k. refl) (λ cvar place h k. is_some-with_place cvars name other place)
+
+-- the place of a cvar is used
+pub some-cvar : (m : Memory) (cvars : List Cvar) (name : List ℕ) (cvar : Cvar) → HoldsCvars m cvars → cvar_of cvars name ≡ Some cvar → IsSome (zone_bytes m cvar.place)
+some-cvar m cvars name cvar holds h = some-place m cvars name cvar.place holds.used (ap (option_map (λ (c : Cvar). c.place)) h)
+
+-- the value of a cvar that is there
+value_of_cvar : (m : Memory) (cvars : List Cvar) (name : List ℕ) (cvar : Cvar) → cvar_of cvars name ≡ Some cvar → cvar_value m cvars name ≡ value_at m cvar.place
+unfolding cvar_value
+value_of_cvar m cvars name cvar h = ap (option_and_then (λ (c : Cvar). value_at m c.place)) h
+
+-- and of one that is not
+value_of_none : (m : Memory) (cvars : List Cvar) (name : List ℕ) → cvar_of cvars name ≡ None → cvar_value m cvars name ≡ None
+unfolding cvar_value
+value_of_none m cvars name h = ap (option_and_then (λ (c : Cvar). value_at m c.place)) h
+
+-- What is set is read back.
+pub cvar_value-set_cvar : (m : Memory) (cvars : List Cvar) (name value : List ℕ) → Laid m → HoldsCvars m cvars → IsText value → (set_cvar m cvars name value).given.answer ≡ Ok true →
+    cvar_value (set_cvar m cvars name value).given.after (set_cvar m cvars name value).cvars name ≡ Some value
+cvar_value-set_cvar m cvars name value laid holds text =
+    set_cases (λ s. s.given.answer ≡ Ok true → cvar_value s.given.after s.cvars name ≡ Some value) m cvars name value
+    (λ h e. absurd (cc))
+    (λ cvar told h k e. absurd (cc))
+    (λ cvar place h k e. value_of_cvar _ (with_place cvars name place) name (record cvar { place = place }) (cvar_of-with_place cvars name cvar place h)
+    ∙ value_at-replace_value m value cvar.place place laid (some-cvar m cvars name cvar holds h) text k)
+
+some_bytes : (o : Option (List ℕ)) → IsSome o → (bytes : List ℕ) × (o ≡ Some bytes)
+some_bytes None h = absurd (cc)
+some_bytes (Some bytes) h = (bytes, refl)
+
+-- a used block that keeps its bytes keeps its value
+value_kept : (m n : Memory) (place : ℕ) → IsSome (zone_bytes m place) → ((bytes : List ℕ) → zone_bytes m place ≡ Some bytes → zone_bytes n place ≡ Some bytes) → value_at n place ≡ value_at m place
+unfolding value_at
+value_kept m n place used kept = let some = some_bytes _ used in ap (option_map until_zero) (kept some.0 some.1 ∙ sym some.1)
+
+-- the cvars keep their values where each used block keeps its bytes
+pub cvar_value-kept : (m n : Memory) (cvars : List Cvar) (name : List ℕ) → ((place : ℕ) (bytes : List ℕ) → zone_bytes m place ≡ Some bytes → zone_bytes n place ≡ Some bytes) → HoldsCvars m cvars →
+    cvar_value n cvars name ≡ cvar_value m cvars name
+cvar_value-kept m n cvars name kept holds = by (cvar_of cvars name) refl where
+  by : (o : Option Cvar) → cvar_of cvars name ≡ o → cvar_value n cvars name ≡ cvar_value m cvars name
+  by None h = value_of_none n cvars name h ∙ sym (value_of_none m cvars name h)
+  by (Some cvar) h = value_of_cvar n cvars name cvar h ∙ value_kept m n cvar.place (some-cvar m cvars name cvar holds h) (kept cvar.place) ∙ sym (value_of_cvar m cvars name cvar h)
+
+-- Each other cvar keeps its value.
+pub cvar_value-set_other : (m : Memory) (cvars : List Cvar) (name value other : List ℕ) → Laid m → HoldsCvars m cvars → other ≢ name →
+    cvar_value (set_cvar m cvars name value).given.after (set_cvar m cvars name value).cvars other ≡ cvar_value m cvars other
+cvar_value-set_other m cvars name value other laid holds differ =
+    set_cases (λ s. cvar_value s.given.after s.cvars other ≡ cvar_value m cvars other) m cvars name value
+    (λ h. refl)
+    (λ cvar told h k. cvar_value-kept m _ cvars other (λ place bytes there. zone_bytes-same _ m place (replace_value-refusal m value cvar.place told k).1 ∙ there) holds)
+    (λ cvar place h k. by cvar place h (cvar_of cvars other) refl)
+  where
+  by : (cvar : Cvar) (place : ℕ) → cvar_of cvars name ≡ Some cvar → (o : Option Cvar) → cvar_of cvars other ≡ o →
+      cvar_value (replace_value m cvar.place value).after (with_place cvars name place) other ≡ cvar_value m cvars other
+  by cvar place h None k = value_of_none _ (with_place cvars name place) other (cvar_of-elsewhere cvars name other place differ ∙ k) ∙ sym (value_of_none m cvars other k)
+  by cvar place h (Some another) k =
+      value_of_cvar _ (with_place cvars name place) other another (cvar_of-elsewhere cvars name other place differ ∙ k)
+      ∙ value_kept m _ another.place (some-cvar m cvars other another holds k) (λ bytes there. zone_bytes-replace_value m value bytes cvar.place another.place laid (cvars_apart cvars name other cvar another holds.apart differ h k) there)
+      ∙ sym (value_of_cvar m cvars other another k)
+
+-- Setting doesn't change the hunks.
+pub size-set_cvar : (m : Memory) (cvars : List Cvar) (name value : List ℕ) → (set_cvar m cvars name value).given.after.size ≡ m.size
+size-set_cvar m cvars name value = set_cases (λ s. s.given.after.size ≡ m.size) m cvars name value (λ h. refl) (λ cvar told h k. size-replace_value m value cvar.place) (λ cvar place h k. size-replace_value m value cvar.place)
+
+pub low-set_cvar : (m : Memory) (cvars : List Cvar) (name value : List ℕ) → (set_cvar m cvars name value).given.after.low ≡ m.low
+low-set_cvar m cvars name value = set_cases (λ s. s.given.after.low ≡ m.low) m cvars name value (λ h. refl) (λ cvar told h k. low-replace_value m value cvar.place) (λ cvar place h k. low-replace_value m value cvar.place)
+
+pub high-set_cvar : (m : Memory) (cvars : List Cvar) (name value : List ℕ) → (set_cvar m cvars name value).given.after.high ≡ m.high
+high-set_cvar m cvars name value = set_cases (λ s. s.given.after.high ≡ m.high) m cvars name value (λ h. refl) (λ cvar told h k. high-replace_value m value cvar.place) (λ cvar place h k. high-replace_value m value cvar.place)
+
+pub temp-set_cvar : (m : Memory) (cvars : List Cvar) (name value : List ℕ) → (set_cvar m cvars name value).given.after.temp ≡ m.temp
+temp-set_cvar m cvars name value = set_cases (λ s. s.given.after.temp ≡ m.temp) m cvars name value (λ h. refl) (λ cvar told h k. temp-replace_value m value cvar.place) (λ cvar place h k. temp-replace_value m value cvar.place)

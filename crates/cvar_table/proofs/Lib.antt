@@ -1,3 +1,4 @@
 mod Listing
 mod Setting
+mod Calls
 pub mod CvarLaws
