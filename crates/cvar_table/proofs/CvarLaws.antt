@@ -3,7 +3,6 @@ use Rattle.std.proofs.Common.{◌≡◌, ◌≢◌, ℕ, ◌+◌, List, [], ◌�
 use Rattle.std.specs.Prelude.{is_some, IsSome}
 use Rattle.std.specs.Option.{option_and_then, option_map}
 use Rattle.std.proofs.lemmas.List.{append-nil}
-use Rattle.base_fields.specs.Texts.{until_zero}
 use Rattle.mem_model.specs.Memory.{Memory}
 use Rattle.mem_model.specs.Answer.{Answered, Answers, Gives}
 use Rattle.mem_model.specs.Laid.{Laid, IsText}
@@ -13,7 +12,7 @@ use Rattle.mem_model.specs.Apart.{NoneIs, AreUsed, AreApart}
 use Rattle.zone_values.specs.Held.{AreHeld}
 use Rattle.zone_values.specs.Values.{value_at, put_value, replace_value}
 use Rattle.zone_values.proofs.ValueLaws.{Laid-replace_value, zone_bytes-replace_value, value_at-replace_value, replace_value-refusal, size-replace_value, low-replace_value, high-replace_value, temp-replace_value}
-use Rattle.zone_values.proofs.HeldLaws.{AreHeld-same, AreHeld-kept, AreHeld-replace_value}
+use Rattle.zone_values.proofs.HeldLaws.{value_at-kept, AreHeld-same, AreHeld-kept, AreHeld-replace_value}
 use Rattle.cvar_table.specs.Cvars.{Cvar, cvar_of, cvar_value, with_place, CvarSet, set_cvar, set_found, set_by, places_of, HoldsCvars}
 use Rattle.mem_model.proofs.Untouched.{zone_bytes-same}
 use Rattle.cvar_table.proofs.Listing.{some-place}
@@ -141,22 +140,13 @@ cvar_value-set_cvar m cvars name value laid holds text =
     (λ cvar place h k e. value_of_cvar _ (with_place cvars name place) name (record cvar { place = place }) (cvar_of-with_place cvars name cvar place h)
     ∙ value_at-replace_value m value cvar.place place laid (some-cvar m cvars name cvar holds h) text k)
 
-some_bytes : (o : Option (List ℕ)) → IsSome o → (bytes : List ℕ) × (o ≡ Some bytes)
-some_bytes None h = absurd (cc)
-some_bytes (Some bytes) h = (bytes, refl)
-
--- a used block that keeps its bytes keeps its value
-value_kept : (m n : Memory) (place : ℕ) → IsSome (zone_bytes m place) → ((bytes : List ℕ) → zone_bytes m place ≡ Some bytes → zone_bytes n place ≡ Some bytes) → value_at n place ≡ value_at m place
-unfolding value_at
-value_kept m n place used kept = let some = some_bytes _ used in ap (option_map until_zero) (kept some.0 some.1 ∙ sym some.1)
-
 -- the cvars keep their values where each used block keeps its bytes
 pub cvar_value-kept : (m n : Memory) (cvars : List Cvar) (name : List ℕ) → ((place : ℕ) (bytes : List ℕ) → zone_bytes m place ≡ Some bytes → zone_bytes n place ≡ Some bytes) → HoldsCvars m cvars →
     cvar_value n cvars name ≡ cvar_value m cvars name
 cvar_value-kept m n cvars name kept holds = by (cvar_of cvars name) refl where
   by : (o : Option Cvar) → cvar_of cvars name ≡ o → cvar_value n cvars name ≡ cvar_value m cvars name
   by None h = value_of_none n cvars name h ∙ sym (value_of_none m cvars name h)
-  by (Some cvar) h = value_of_cvar n cvars name cvar h ∙ value_kept m n cvar.place (some-cvar m cvars name cvar holds h) (kept cvar.place) ∙ sym (value_of_cvar m cvars name cvar h)
+  by (Some cvar) h = value_of_cvar n cvars name cvar h ∙ value_at-kept m n cvar.place (some-cvar m cvars name cvar holds h) (kept cvar.place) ∙ sym (value_of_cvar m cvars name cvar h)
 
 -- Each other cvar keeps its value.
 pub cvar_value-set_other : (m : Memory) (cvars : List Cvar) (name value other : List ℕ) → Laid m → HoldsCvars m cvars → other ≢ name →
@@ -172,7 +162,7 @@ cvar_value-set_other m cvars name value other laid holds differ =
   by cvar place h None k = value_of_none _ (with_place cvars name place) other (cvar_of-elsewhere cvars name other place differ ∙ k) ∙ sym (value_of_none m cvars other k)
   by cvar place h (Some another) k =
       value_of_cvar _ (with_place cvars name place) other another (cvar_of-elsewhere cvars name other place differ ∙ k)
-      ∙ value_kept m _ another.place (some-cvar m cvars other another holds k) (λ bytes there. zone_bytes-replace_value m value bytes cvar.place another.place laid (cvars_apart cvars name other cvar another holds.apart differ h k) there)
+      ∙ value_at-kept m _ another.place (some-cvar m cvars other another holds k) (λ bytes there. zone_bytes-replace_value m value bytes cvar.place another.place laid (cvars_apart cvars name other cvar another holds.apart differ h k) there)
       ∙ sym (value_of_cvar m cvars other another k)
 
 -- Setting doesn't change the hunks.

@@ -1,4 +1,6 @@
 mod Listing
 mod Setting
 mod Calls
+mod Creating
 pub mod CvarLaws
+pub mod CreatedLaws

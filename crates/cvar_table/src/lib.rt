@@ -1,7 +1,7 @@
 //! The cvars: variables of the console with values in the zone.
 #![tactic(auto)]
 
-ghost use Rattle.std.specs.Prelude.{◌≡◌, ℕ, ◌<◌, ◌^◌, Some, None, MatchOption, is_some, IfSome, IfOk, OnErr, length, take, position, bytes_eq};
+ghost use Rattle.std.specs.Prelude.{◌≡◌, ℕ, ◌<◌, ◌^◌, Some, None, MatchOption, is_some, IfSome, IfOk, OnErr, length, take, map, position, slice_get, bytes_eq};
 ghost use Rattle.std.specs.Option.{option_map};
 ghost use Rattle.mem_model.specs.Answer.{Gives};
 ghost use Rattle.mem_model.specs.Laid.{Laid, IsText};
@@ -49,6 +49,14 @@ fn position_of(name: &[u8]) -> Option<usize>
     DEFAULTS.iter().position(|(own, _)| *own == name)
 }
 
+// The value that the cvar at a position begins with.
+fn first_value(at: usize) -> &'static [u8]
+    requires { at < length defaults }
+    ensures { slice_get (map (λ own. own.value) defaults) at ≡ Some result.now }
+{
+    DEFAULTS[at].1
+}
+
 impl Cvars {
     /// Puts the value of each default into a zone block of its own, in order.
     ///
@@ -62,8 +70,8 @@ impl Cvars {
         ensures laid { Laid (M.state store.new) }
     {
         let mut places = [Place(0); 8];
-        for (at, (_, value)) in DEFAULTS.iter().enumerate() {
-            match put_value(store, value) {
+        for at in 0..DEFAULTS.len() {
+            match put_value(store, first_value(at)) {
                 Ok(place) => places[at] = place,
                 Err(error) => return Err(error),
             }
