@@ -1,14 +1,15 @@
 -- What an operation gives, case by case, where no event is kept.
 use Rattle.std.proofs.Common.{◌≡◌, ℕ, ◌+◌, ◌-◌, ◌<◌, ◌≤◌, List, [], ◌∷◌, ◌++◌, Option, Some, None, Result, Ok, Err, Bool, true, false, ltb, length, refl, sym, ap, ◌∙◌, arith, if◌then◌else◌, is_ok}
-use Rattle.std.specs.Prelude.{codes}
+use Rattle.std.specs.Prelude.{codes, slice_get}
 use Rattle.std.proofs.lemmas.Bool.{lt-ltb, le-ltb}
-use Rattle.mem_model.specs.Event.{Event, Shortage, Event.HighAlloc}
-use Rattle.mem_model.specs.Blocks.{HunkBlock}
+use Rattle.mem_model.specs.Event.{Event, Shortage, Event.HighAlloc, FreeRefusal.NotZone, FreeRefusal.AlreadyFree}
+use Rattle.mem_model.specs.Blocks.{HunkBlock, ZoneBlock}
 use Rattle.mem_model.specs.Memory.{Memory, room, low_used, high_used, high_start}
 use Rattle.mem_model.specs.Answer.{Answered, Answers, Gives, noted, with_event}
-use Rattle.mem_model.specs.Places.{hunk_need, round_up}
+use Rattle.mem_model.specs.Places.{hunk_need, zone_need, round_up}
 use Rattle.mem_model.specs.Hunk.{hunk_block, with_low, with_high, without_temp, cut_above, cut_from}
-use Rattle.mem_model.specs.Operations.{low_alloc, low_free, high_taken, high_alloc, high_mark, high_free, temp_alloc, shortage}
+use Rattle.mem_model.specs.Zone.{chosen, position_of, place_at, with_taken, with_free}
+use Rattle.mem_model.specs.Operations.{low_alloc, low_free, high_taken, high_alloc, high_mark, high_free, temp_alloc, z_alloc, z_free, shortage}
 use Rattle.mem_model.specs.Told.{room_answer}
 use Rattle.mem_model.specs.declared.answers.RoomError.{RoomError}
 use Rattle.mem_model.specs.declared.answers.RoomError.TheVariants as room_error
@@ -144,3 +145,25 @@ pub temp_alloc_without : (m new : Memory) (size : ℕ) (error : RoomError) → m
     Gives (high_taken (without_temp m) (round_up size 16) (codes "temp")) false (without_temp m) (room_answer (Err error)) new → Gives (temp_alloc m size) false (without_temp m) (room_answer (Err error)) new
 temp_alloc_without m new size (room_error.NoRoom asked room) quiet p = temp_alloc_refused m new size _ quiet p
 temp_alloc_without m new size room_error.OutOfMemory quiet p = p
+
+pub z_alloc_full : (m : Memory) (size : ℕ) → m.event_room ≡ 0 → chosen m.zone (zone_need size) ≡ None → Answers (z_alloc m size) (Err (zone_need size)) m
+unfolding z_alloc
+z_alloc_full m size quiet none = rw none (record { answer = refl; after = sym (with_event_none m _ quiet) })
+
+pub z_alloc_taken : (m : Memory) (size i : ℕ) → m.event_room ≡ 0 → chosen m.zone (zone_need size) ≡ Some i →
+    Answers (z_alloc m size) (Ok (place_at m.zone.blocks i + 24)) (record m { zone = with_taken m.zone i (zone_need size) })
+unfolding z_alloc
+z_alloc_taken m size i quiet some = rw some (record { answer = refl; after = sym (with_event_none (record m { zone = with_taken m.zone i (zone_need size) }) _ quiet) })
+
+pub z_free_nowhere : (m : Memory) (place : ℕ) → m.event_room ≡ 0 → position_of m.zone.blocks place ≡ None → Answers (z_free m place) (Err (NotZone place)) m
+unfolding z_free
+z_free_nowhere m place quiet none = rw none (record { answer = refl; after = sym (with_event_none m _ quiet) })
+
+pub z_free_again : (m : Memory) (place i : ℕ) (b : ZoneBlock) → m.event_room ≡ 0 → position_of m.zone.blocks place ≡ Some i → slice_get m.zone.blocks i ≡ Some b → b.used ≡ false → Answers (z_free m place) (Err (AlreadyFree place)) m
+unfolding z_free
+z_free_again m place i b quiet some there free = rw (some, there, free) (record { answer = refl; after = sym (with_event_none m _ quiet) })
+
+pub z_free_used : (m : Memory) (place i : ℕ) (b : ZoneBlock) → m.event_room ≡ 0 → position_of m.zone.blocks place ≡ Some i → slice_get m.zone.blocks i ≡ Some b → b.used ≡ true →
+    Answers (z_free m place) (Ok tt) (record m { zone = with_free m.zone i })
+unfolding z_free
+z_free_used m place i b quiet some there used = rw (some, there, used) (record { answer = refl; after = sym (with_event_none (record m { zone = with_free m.zone i }) _ quiet) })

@@ -11,6 +11,9 @@ pub mod Newest
 pub mod Ends
 pub mod ZoneLists
 pub mod ZoneLaying
+pub mod ZonePlaces
+pub mod ZoneSearch
+pub mod ZoneEdits
 pub mod ZoneBytes
 pub mod Untouched
 pub mod ZoneApart

@@ -200,12 +200,12 @@ unfolding zone_bytes
 zone_bytes-inside m place bytes laid h =
     (place_above 48 m.zone.blocks place bytes h, omega (arith, inside-bytes 48 m.zone.blocks place bytes laid.zone.blocks h, laid.zone.tiles, first_below m.low))
 
--- So its place lies below the largest arena's end.
-pub zone_place-small : (m : Memory) (place : ℕ) (bytes : List ℕ) → Laid m → zone_bytes m place ≡ Some bytes → place < 2 ^ 26
+-- So they end below the largest arena's end.
+pub zone_bytes-small : (m : Memory) (place : ℕ) (bytes : List ℕ) → Laid m → zone_bytes m place ≡ Some bytes → place + length bytes < 2 ^ 26
 unfolding zone_bytes
-zone_place-small m place bytes laid h = omega (arith, inside-bytes 48 m.zone.blocks place bytes laid.zone.blocks h, laid.zone.tiles, first_below m.low, laid.inside, laid.small)
+zone_bytes-small m place bytes laid h =
+    omega (arith, inside-bytes 48 m.zone.blocks place bytes laid.zone.blocks h, laid.zone.tiles, first_below m.low, laid.inside, laid.small)
 
--- A freed place that is refused leaves the zone.
 refused_at : (m : Memory) (place i : ℕ) (o : Option ZoneBlock) (told : FreeRefusal) → (z_freed_at m place i o).answer ≡ Err told → (z_freed_at m place i o).after.zone ≡ m.zone
 unfolding freed_given
 refused_at m place i None told h = refl
@@ -263,7 +263,7 @@ AreUsed-same m n [] same used = tt
 AreUsed-same m n (place ∷ places) same used = (subst (λ o. IsSome o) (zone_bytes-same m n place (sym same)) used.0, AreUsed-same m n places same used.1)
 
 -- for callers: `#[tactic(auto, using(mem_model::proofs::ZoneLaws::zone_laws))]`
-pub ruleset zone_laws = (Laid-z_alloc, Laid-z_free, Laid-with_zone_bytes, zone_bytes-z_alloc, some-z_alloc, some-z_new, length-z_new, zone_place_apart, z_free-used, zone_bytes-z_free, some-z_free, zone_bytes-written, zone_bytes-elsewhere, some-with_zone_bytes, zone_place-small, NoneIs-z_new, AreUsed-z_alloc, AreUsed-z_free, AreUsed-with_zone_bytes, places-small)
+pub ruleset zone_laws = (Laid-z_alloc, Laid-z_free, Laid-with_zone_bytes, zone_bytes-z_alloc, some-z_alloc, some-z_new, length-z_new, zone_place_apart, z_free-used, zone_bytes-z_free, some-z_free, zone_bytes-written, zone_bytes-elsewhere, some-with_zone_bytes, zone_bytes-inside, zone_bytes-small, NoneIs-z_new, AreUsed-z_alloc, AreUsed-z_free, AreUsed-with_zone_bytes, places-small)
 
 -- for callers of the hunks and the zone: what each leaves of the other
 pub ruleset apart_laws = (size-z_alloc, low-z_alloc, high-z_alloc, temp-z_alloc, low_bytes-z_alloc, temp_bytes-z_alloc, size-z_free, low-z_free, high-z_free, temp-z_free, low_bytes-z_free, temp_bytes-z_free, size-with_zone_bytes, low-with_zone_bytes, high-with_zone_bytes, temp-with_zone_bytes, low_bytes-with_zone_bytes, temp_bytes-with_zone_bytes, zone-low_alloc, zone-low_free, zone-without_temp, zone-high_alloc, zone-high_free, zone-high_mark, zone-temp_alloc, zone-with_low_bytes, zone-with_temp_bytes, zone_bytes-low_alloc, zone_bytes-low_free, zone_bytes-without_temp, zone_bytes-high_alloc, zone_bytes-high_free, zone_bytes-high_mark, zone_bytes-temp_alloc, zone_bytes-with_low_bytes, zone_bytes-with_temp_bytes)

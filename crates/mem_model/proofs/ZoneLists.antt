@@ -134,7 +134,7 @@ all_fit whole (b ∷ bs) need i reads =
     fit_or false true e f first rest = (record { b = b; there = first; free = e; large = leb-true need b.size f }, rest)
 
 -- from a position to its distance and back
-position_back : (z : Zone) (i : ℕ) → i ≤ length z.blocks → z.rover ≤ length z.blocks → position_after z (distance z i) ≡ i
+pub position_back : (z : Zone) (i : ℕ) → i ≤ length z.blocks → z.rover ≤ length z.blocks → position_after z (distance z i) ≡ i
 position_back z i inside rover = ring (suc (length z.blocks)) z.rover i (omega (arith, rover)) (omega (arith, inside))
   where
     ring : (n r k : ℕ) → r ≤ n → k < n → (r + (k + (n - r)) % n) % n ≡ k

@@ -12,4 +12,5 @@ pub mod Laid
 pub mod Rows
 pub mod Told
 pub mod Plain
+pub mod ZoneState
 pub mod PlainState

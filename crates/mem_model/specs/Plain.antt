@@ -1,8 +1,9 @@
 -- Where a plain store's vectors have what is looked for.
-use Rattle.std.specs.Prelude.{ℕ, ◌+◌, ◌≡◌, ◌<◌, List, [], ◌∷◌, Some, length, slice_get, slice_set, take}
-use Rattle.mem_model.specs.Blocks.{HunkBlock}
+use Rattle.std.specs.Prelude.{ℕ, ◌+◌, ◌≡◌, ◌<◌, List, [], ◌∷◌, Bool, ◌&&◌, nat_le, not, Some, length, slice_get, slice_set, take}
+use Rattle.mem_model.specs.Blocks.{HunkBlock, ZoneBlock}
 use Rattle.mem_model.specs.Memory.{size_of}
 use Rattle.mem_model.specs.Hunk.{bytes_above, with_bytes_above, with_bytes, cut_above, cut_from, last_bytes, with_last_bytes}
+use Rattle.mem_model.specs.Zone.{used_bytes_from, with_payload, with_payload_from}
 
 -- where each of the blocks ends, the first of which begins at `start`
 abbrev pub ends_from : ℕ → List HunkBlock → List ℕ
@@ -31,3 +32,13 @@ pub record IsLast (blocks : List HunkBlock) (n : ℕ) : Type 0 where
   pub inside : n < length blocks
   pub reads : (b : HunkBlock) → slice_get blocks n ≡ Some b → last_bytes blocks ≡ Some b.bytes
   pub writes : (b : HunkBlock) (bytes : List ℕ) → slice_get blocks n ≡ Some b → with_last_bytes blocks bytes ≡ slice_set blocks n (with_bytes b bytes)
+
+-- a free block of at least this size
+abbrev pub is_fit : ℕ → ZoneBlock → Bool
+is_fit need b = not b.used && nat_le need b.size
+
+-- The used zone block of this payload's place is that at position i.
+pub record IsUsedAt (blocks : List ZoneBlock) (place i : ℕ) : Type 0 where
+  pub inside : i < length blocks
+  pub reads : (b : ZoneBlock) → slice_get blocks i ≡ Some b → used_bytes_from 48 blocks place ≡ Some b.bytes
+  pub writes : (b : ZoneBlock) (bytes : List ℕ) → slice_get blocks i ≡ Some b → with_payload_from 48 blocks place bytes ≡ slice_set blocks i (with_payload b bytes)

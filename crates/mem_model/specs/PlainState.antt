@@ -13,7 +13,7 @@ state_of s = record {
   low = s.low.items;
   high = s.high.items;
   temp = s.temp;
-  zone = record { blocks = s.zone.items; rover = s.rover };
+  zone = s.zone;
   cache = record { blocks = s.cache.items; recency = s.recency.items };
   event_room = 0;
   events = [];

@@ -1,11 +1,15 @@
 //! The blocks of a plain store, each seen as the block that it stands for.
 
-ghost use Rattle.std.specs.Prelude.{◌≡◌, ◌≤◌, ◌++◌, ◌∷◌, [], IfOk, OnOk, OnErr, false, length};
+ghost use Rattle.std.specs.Prelude.{◌≡◌, ◌<◌, ◌≤◌, ◌++◌, ◌∷◌, [], IfOk, OnOk, OnErr, length, vec_len, vec_capacity};
+ghost use Rattle.std.specs.List.{insert};
 ghost use Rattle.std.specs.Borrow.{sem, Lends, u8 as byte, Array};
 ghost use Rattle.mem_model.specs.Hunk.{with_bytes, hunk_block};
-ghost use Rattle.mem_model.specs.Rows.{hunk_row};
+ghost use Rattle.mem_model.specs.Zone.{free_block, used_block, with_payload};
+ghost use Rattle.mem_model.specs.Plain.{is_fit};
+ghost use Rattle.mem_model.specs.Rows.{hunk_row, zone_row};
 ghost use Rattle.mem_model.specs.Told.{row_of};
-ghost use Rattle.mem_model.specs.contracts.cells.HunkCell.{the_row as cell_row};
+ghost use Rattle.mem_model.specs.contracts.cells.HunkCell.{the_row as hunk_cell_row};
+ghost use Rattle.mem_model.specs.contracts.cells.ZoneCell.{the_row as zone_cell_row};
 
 use crate::answers::BlockRow;
 use std::alloc::{AllocError, Global};
@@ -18,6 +22,17 @@ pub fn add<T: Drop>(list: &mut Vec<T>, item: T) -> Result<(), AllocError>
 {
     list.push(item)?;
     Ok(())
+}
+
+// An insert into room that was made before.
+pub fn insert_reserved<T: Drop>(list: &mut Vec<T>, at: usize, item: T)
+    requires inside { at ≤ vec_len list.old }
+    requires room { vec_len list.old < vec_capacity list.old }
+    ensures { list.new.items ≡ insert list.old.items at item }
+{
+    if list.insert(at, item).is_err() {
+        unreachable!()
+    }
 }
 
 /// A block of a hunk.
@@ -95,7 +110,7 @@ impl HunkCell {
     }
 
     pub fn bytes_mut(&mut self) -> &mut [u8]
-        ensures* writes_back { sem 𝓛 (Lends cell_row (Array byte 0) self.entry result (with_bytes self.old)) }
+        ensures* writes_back { sem 𝓛 (Lends hunk_cell_row (Array byte 0) self.entry result (with_bytes self.old)) }
         ensures shows { result.now ≡ self.old.bytes }
     {
         self.bytes.as_mut_slice()
@@ -121,13 +136,72 @@ impl Model for ZoneCell {
 impl ZoneCell {
     /// A free block.
     pub fn free(alloc: Global, size: u32) -> ZoneCell
-        ensures { result ≡ record { size = size; used = false; bytes = [] } }
+        ensures { result ≡ free_block size }
     {
         ZoneCell {
             size,
             used: false,
             bytes: Vec::new(alloc),
         }
+    }
+
+    /// A block in use, of `size` bytes, its header of 24 and its end mark of 4 included, with zero bytes.
+    pub fn used(alloc: Global, size: u32) -> Result<ZoneCell, AllocError>
+        requires { 28 ≤ size }
+        ensures { IfOk result (λ c. c ≡ used_block size) }
+    {
+        let bytes = vec![in alloc; 0; (size - 28) as usize]?;
+        Ok(ZoneCell {
+            size,
+            used: true,
+            bytes,
+        })
+    }
+
+    /// The size, the header of 24 and the end mark of 4 included.
+    pub fn size(&self) -> u32
+        ensures { result ≡ self.now.size }
+    {
+        self.size
+    }
+
+    pub fn is_used(&self) -> bool
+        ensures { result ≡ self.now.used }
+    {
+        self.used
+    }
+
+    /// Whether it is free, and of at least this size.
+    pub fn fits(&self, need: u64) -> bool
+        ensures { result ≡ is_fit need self.now }
+    {
+        !self.used && need <= u64::from(self.size)
+    }
+
+    /// The row of this block, whose header is at a place.
+    pub fn row(&self, place: u32) -> BlockRow
+        ensures { row_of result ≡ zone_row place self.now }
+    {
+        BlockRow {
+            place,
+            size: self.size,
+            name: [0; 16],
+            user: 0,
+            used: self.used,
+        }
+    }
+
+    pub fn bytes(&self) -> &[u8]
+        ensures { result.now ≡ self.now.bytes }
+    {
+        self.bytes.as_slice()
+    }
+
+    pub fn bytes_mut(&mut self) -> &mut [u8]
+        ensures* writes_back { sem 𝓛 (Lends zone_cell_row (Array byte 0) self.entry result (with_payload self.old)) }
+        ensures shows { result.now ≡ self.old.bytes }
+    {
+        self.bytes.as_mut_slice()
     }
 }
 

@@ -9,6 +9,7 @@ mod plain;
 mod store;
 #[cfg(test)]
 mod tests;
+mod zone;
 
 pub use answers::{BadMark, BlockRow, FreeError, Place, RoomError, StoreStart, ZoneError};
 pub use plain::PlainStore;

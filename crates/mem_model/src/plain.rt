@@ -7,13 +7,14 @@ ghost use Rattle.mem_model.specs.Hunk.{bytes_above, cut_above, cut_from, last_by
 ghost use Rattle.mem_model.specs.Operations.{high_taken};
 ghost use Rattle.mem_model.specs.Answer.{Gives};
 ghost use Rattle.mem_model.specs.Told.{room_answer};
-ghost use Rattle.mem_model.specs.Places.{hunk_need};
+ghost use Rattle.mem_model.specs.Places.{hunk_need, zone_need};
 ghost use Rattle.mem_model.specs.Plain.{IsAt, IsCut, IsHighCut, IsLast};
 ghost use Rattle.mem_model.specs.Laid.{Laid, IsMultiple, IsText, IsHunkBlock, AreLowBlocks};
 
-use crate::answers::{BadMark, BlockRow, Place, RoomError, StoreStart};
-use crate::cells::{CacheCell, HunkCell, ZoneCell, add};
+use crate::answers::{BadMark, BlockRow, FreeError, Place, RoomError, StoreStart, ZoneError};
+use crate::cells::{CacheCell, HunkCell, add};
 use crate::store::Store;
+use crate::zone::PlainZone;
 use std::alloc::Global;
 use std::marker::Model;
 
@@ -32,8 +33,7 @@ pub struct PlainStore {
     // The same, from the arena's end down.
     high_ends: Vec<u32>,
     temp: Option<u32>,
-    zone: Vec<ZoneCell>,
-    rover: usize,
+    zone: PlainZone,
     cache: Vec<CacheCell>,
     recency: Vec<u32>,
 }
@@ -56,6 +56,14 @@ fn hunk_need(size: u64) -> u64
     ensures { result ≡ hunk_need size }
 {
     16 + size.div_ceil(16) * 16
+}
+
+// What a zone block with a payload of this size takes.
+fn zone_need(size: u64) -> u64
+    requires { size ≤ 2 ^ 62 }
+    ensures { result ≡ zone_need size }
+{
+    (size + 28).div_ceil(8) * 8
 }
 
 // The position of the block above the zone whose payload is at this place. It looks from the newest, which is asked
@@ -137,8 +145,6 @@ impl PlainStore {
         }
         let mut low = Vec::new(alloc);
         add(&mut low, HunkCell::bare(alloc, zone + 16, b"zone")?)?;
-        let mut blocks = Vec::new(alloc);
-        add(&mut blocks, ZoneCell::free(alloc, zone - 32))?;
         let mut low_ends = Vec::new(alloc);
         add(&mut low_ends, zone + 16)?;
         Ok(PlainStore {
@@ -152,8 +158,7 @@ impl PlainStore {
             high_used: 0,
             high_ends: Vec::new(alloc),
             temp: None,
-            zone: blocks,
-            rover: 0,
+            zone: PlainZone::create(alloc, zone - 32)?,
             cache: Vec::new(alloc),
             recency: Vec::new(alloc),
         })
@@ -200,6 +205,7 @@ impl PlainStore {
 impl Store for PlainStore {
     ghost use Rattle.std.specs.Prelude.{false, refl};
     ghost use Rattle.mem_model.specs.Hunk.{with_low_bytes, with_temp_bytes};
+    ghost use Rattle.mem_model.specs.Zone.{with_zone_bytes};
 
     ghost state = { λ m. m };
 
@@ -208,6 +214,8 @@ impl Store for PlainStore {
     ghost low_written = { with_low_bytes };
 
     ghost temp_written = { with_temp_bytes };
+
+    ghost zone_written = { with_zone_bytes };
 
     fn low_alloc(&mut self, size: u64, name: &[u8]) -> Result<Place, RoomError> {
         let need = hunk_need(size);
@@ -322,6 +330,42 @@ impl Store for PlainStore {
         Some(self.high[at].row(self.size - self.high_ends[at]))
     }
 
+    fn z_alloc(&mut self, size: u64) -> Result<Place, ZoneError> {
+        let asked = zone_need(size);
+        let Some(at) = self.zone.chosen(asked) else {
+            return Err(ZoneError::Full { asked });
+        };
+        Ok(self.zone.take(at, asked as u32)?)
+    }
+
+    fn z_free(&mut self, place: Place) -> Result<(), FreeError> {
+        let place = place.0;
+        let Some(at) = self.zone.position_of(place) else {
+            return Err(FreeError::NotZone { place });
+        };
+        if !self.zone.cell(at).is_used() {
+            return Err(FreeError::AlreadyFree { place });
+        }
+        self.zone.free(at);
+        Ok(())
+    }
+
+    fn zone_bytes(&self, place: Place) -> &[u8] {
+        self.zone.bytes(place.0)
+    }
+
+    fn zone_bytes_mut(&mut self, place: Place) -> &mut [u8] {
+        self.zone.bytes_mut(place.0)
+    }
+
+    fn zone_row(&self, number: u32) -> Option<BlockRow> {
+        self.zone.row(number as usize)
+    }
+
+    fn rover(&self) -> u32 {
+        self.zone.rover_place()
+    }
+
     fn size(&self) -> u32 {
         self.size
     }
@@ -333,4 +377,6 @@ impl Store for PlainStore {
     ghost low_writes = { λ s place bytes. refl };
 
     ghost temp_writes = { λ s bytes. refl };
+
+    ghost zone_writes = { λ s place bytes. refl };
 }

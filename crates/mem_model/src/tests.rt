@@ -2,7 +2,9 @@
 
 ghost use Rattle.std.specs.Prelude.{◌≡◌, ◌≤◌, ◌^◌, length, true, IfOk};
 
-use crate::{BadMark, BlockRow, Place, PlainStore, RoomError, Store, StoreStart};
+use crate::{
+    BadMark, BlockRow, FreeError, Place, PlainStore, RoomError, Store, StoreStart, ZoneError,
+};
 use std::test::Fail;
 
 #[test]
@@ -168,5 +170,81 @@ fn rows_go_upwards(rt: HostRuntime) -> Result<(), Fail> {
         assert_eq!(rt; brief(store.low_row(number)), low, "low {number}");
         assert_eq!(rt; brief(store.high_row(number)), high, "high {number}");
     }
+    Ok(())
+}
+
+// The place, the size and the use of a row of the zone.
+fn brief_zone(row: Option<BlockRow>) -> Option<(u32, u32, bool)> {
+    match row {
+        Some(row) => Some((row.place, row.size, row.used)),
+        None => None,
+    }
+}
+
+#[test]
+fn a_zone_block_is_cut_from_a_free_one(rt: HostRuntime) -> Result<(), Fail> {
+    let full = Err(ZoneError::Full { asked: 32 });
+    for (size, taken, rest, rover, next) in [
+        (10, 40, Some((88, 49_080, false)), 88, Ok(Place(112))),
+        (
+            49_020,
+            49_048,
+            Some((49_096, 72, false)),
+            49_096,
+            Ok(Place(49_120)),
+        ),
+        (49_028, 49_120, None, 20, full),
+    ] {
+        let mut store = PlainStore::create(rt.alloc(), 65_536, 49_152, 8)?;
+        assert_eq!(rt; store.z_alloc(size), Ok(Place(72)), "of {size}");
+        let first = brief_zone(store.zone_row(0));
+        assert_eq!(rt; first, Some((48, taken, true)), "of {size}");
+        assert_eq!(rt; brief_zone(store.zone_row(1)), rest, "of {size}");
+        assert_eq!(rt; store.rover(), rover, "of {size}");
+        assert_eq!(rt; store.z_alloc(1), next, "of {size}");
+    }
+    Ok(())
+}
+
+#[test]
+fn freed_zone_blocks_are_joined(rt: HostRuntime) -> Result<(), Fail> {
+    let mut store = PlainStore::create(rt.alloc(), 65_536, 49_152, 8)?;
+    for place in [72, 112, 152] {
+        assert_eq!(rt; store.z_alloc(10), Ok(Place(place)));
+    }
+    let again = Err(FreeError::AlreadyFree { place: 72 });
+    let nowhere = Err(FreeError::NotZone { place: 73 });
+    for (place, answer, rover, first) in [
+        (72, Ok(()), 168, 40),
+        (152, Ok(()), 128, 40),
+        (112, Ok(()), 48, 49_120),
+        (72, again, 48, 49_120),
+        (73, nowhere, 48, 49_120),
+    ] {
+        assert_eq!(rt; store.z_free(Place(place)), answer, "of {place}");
+        assert_eq!(rt; store.rover(), rover, "of {place}");
+        let row = brief_zone(store.zone_row(0));
+        assert_eq!(rt; row, Some((48, first, false)), "of {place}");
+    }
+    assert!(rt; store.zone_row(1).is_none());
+    Ok(())
+}
+
+// Puts a text into a new block of any store's zone, and reads it back.
+#[tactic(auto, using(crate::proofs::ZoneLaws::zone_laws))]
+fn reads_back_zone<S: Store>(store: &mut S, text: &[u8]) -> Result<bool, ZoneError>
+    requires small { length text.now ≤ 2 ^ 20 }
+{
+    let place = store.z_alloc(text.len() as u64)?;
+    put(store.zone_bytes_mut(place), text);
+    Ok(store.zone_bytes(place).starts_with(text))
+}
+
+#[test]
+fn zone_blocks_keep_what_is_written(rt: HostRuntime) -> Result<(), Fail> {
+    let mut store = PlainStore::create(rt.alloc(), 65_536, 49_152, 8)?;
+    assert!(rt; reads_back_zone(&mut store, b"hello")?);
+    assert!(rt; reads_back_zone(&mut store, b"a longer text, of more than one line")?);
+    assert_eq!(rt; store.rover(), 48 + 40 + 64);
     Ok(())
 }
