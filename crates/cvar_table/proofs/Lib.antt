@@ -1,1 +1,6 @@
-pub mod Listing
+mod Listing
+mod Setting
+mod Calls
+mod Creating
+pub mod CvarLaws
+pub mod CreatedLaws

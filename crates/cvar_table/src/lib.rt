@@ -1,7 +1,8 @@
 //! The cvars: variables of the console with values in the zone.
 #![tactic(auto)]
 
-ghost use Rattle.std.specs.Prelude.{◌≡◌, ℕ, ◌<◌, ◌^◌, Some, None, MatchOption, is_some, IfSome, IfOk, OnErr, length, take, position, bytes_eq};
+ghost use Rattle.std.specs.Prelude.{◌≡◌, ℕ, ◌<◌, ◌^◌, Some, None, MatchOption, is_some, IfSome, IfOk, OnErr, length, take, map, position, slice_get, bytes_eq};
+ghost use Rattle.std.specs.Option.{option_map};
 ghost use Rattle.mem_model.specs.Answer.{Gives};
 ghost use Rattle.mem_model.specs.Laid.{Laid, IsText};
 ghost use Rattle.cvar_table.specs.Cvars.{defaults, created, cvar_of, cvar_value, set_cvar, places_of, HoldsCvars};
@@ -49,6 +50,14 @@ fn position_of(name: &[u8]) -> Option<usize>
     DEFAULTS.iter().position(|(own, _)| *own == name)
 }
 
+// The value that the cvar at a position begins with.
+fn first_value(at: usize) -> &'static [u8]
+    requires { at < length defaults }
+    ensures { slice_get (map (λ own. own.value) defaults) at ≡ Some result.now }
+{
+    DEFAULTS[at].1
+}
+
 impl Cvars {
     /// Puts the value of each default into a zone block of its own, in order.
     ///
@@ -62,8 +71,8 @@ impl Cvars {
         ensures laid { Laid (M.state store.new) }
     {
         let mut places = [Place(0); 8];
-        for (at, (_, value)) in DEFAULTS.iter().enumerate() {
-            match put_value(store, value) {
+        for at in 0..DEFAULTS.len() {
+            match put_value(store, first_value(at)) {
                 Ok(place) => places[at] = place,
                 Err(error) => return Err(error),
             }
@@ -71,11 +80,21 @@ impl Cvars {
         Ok(Cvars { places })
     }
 
+    // Where the value of the cvar of exactly this name is.
+    fn place(&self, name: &[u8]) -> Option<Place>
+        ensures { option_map (λ cvar. cvar.place) (cvar_of self.now name.now) ≡ option_map (λ place. place.0) result }
+    {
+        match position_of(name) {
+            Some(at) => Some(self.places[at]),
+            None => None,
+        }
+    }
+
     /// Whether a cvar has exactly this name.
     pub fn contains(&self, name: &[u8]) -> bool
         ensures { result ≡ is_some (cvar_of self.now name.now) }
     {
-        position_of(name).is_some()
+        self.place(name).is_some()
     }
 
     /// The value of the cvar of exactly this name, without the zero that ends it: `None` exactly where none has the name.
@@ -86,8 +105,8 @@ impl Cvars {
         ensures none { is_some result ≡ is_some (cvar_of self.now name.now) }
         ensures text { IfSome result (λ value. IsText value.now) }
     {
-        match position_of(name) {
-            Some(at) => Some(value_at(store, self.places[at])),
+        match self.place(name) {
+            Some(place) => Some(value_at(store, place)),
             None => None,
         }
     }

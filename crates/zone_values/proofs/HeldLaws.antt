@@ -1,12 +1,14 @@
 -- Laws of places that are held: what keeps each of them used, and no two the same.
 use Rattle.std.proofs.Common.{◌≡◌, ◌≢◌, ℕ, List, [], ◌∷◌, ◌++◌, Option, Some, None, Result, Ok, Err, refl, sym, ap, ◌∙◌}
 use Rattle.std.specs.Prelude.{IsSome}
+use Rattle.std.specs.Option.{option_map}
+use Rattle.base_fields.specs.Texts.{until_zero}
 use Rattle.mem_model.specs.Memory.{Memory}
 use Rattle.mem_model.specs.Laid.{Laid}
 use Rattle.mem_model.specs.Zone.{zone_bytes}
 use Rattle.mem_model.specs.Apart.{NoneIs, AreApart, AreUsed}
 use Rattle.mem_model.proofs.ZoneLaws.{AreUsed-same}
-use Rattle.zone_values.specs.Values.{put_value, replace_value}
+use Rattle.zone_values.specs.Values.{value_at, put_value, replace_value}
 use Rattle.zone_values.specs.Held.{AreHeld, NoneAmong}
 use Rattle.zone_values.proofs.ValueLaws.{NoneIs-put_value, zone_bytes-put_value, some-put_new, NoneIs-replace_value, zone_bytes-replace_value, some-replace_new}
 
@@ -17,6 +19,11 @@ some_bytes (Some bytes) h = (bytes, refl)
 -- a used block that keeps its bytes stays used
 pub some-kept : (m n : Memory) (place : ℕ) → ((bytes : List ℕ) → zone_bytes m place ≡ Some bytes → zone_bytes n place ≡ Some bytes) → IsSome (zone_bytes m place) → IsSome (zone_bytes n place)
 some-kept m n place kept used = let some = some_bytes (zone_bytes m place) used in rw (kept some.0 some.1) refl
+
+-- and keeps its value
+pub value_at-kept : (m n : Memory) (place : ℕ) → IsSome (zone_bytes m place) → ((bytes : List ℕ) → zone_bytes m place ≡ Some bytes → zone_bytes n place ≡ Some bytes) → value_at n place ≡ value_at m place
+unfolding value_at
+value_at-kept m n place used kept = let some = some_bytes (zone_bytes m place) used in ap (option_map until_zero) (kept some.0 some.1 ∙ sym some.1)
 
 -- Places stay used where each used block keeps its bytes.
 pub AreUsed-kept : (m n : Memory) (places : List ℕ) → ((place : ℕ) (bytes : List ℕ) → zone_bytes m place ≡ Some bytes → zone_bytes n place ≡ Some bytes) → AreUsed m places → AreUsed n places
@@ -97,6 +104,18 @@ AreHeld-turned m xs ys held =
     record {
       used = used_joined m ys xs used.1 used.0;
       apart = apart_joined ys xs (record { front = parts.back; back = parts.front; between = among_turned xs ys parts.between });
+    }
+
+-- A place may come before those that it stands among.
+pub AreHeld-first : (m : Memory) (place : ℕ) (xs ys : List ℕ) → AreHeld m (xs ++ place ∷ ys) → AreHeld m (place ∷ (xs ++ ys))
+AreHeld-first m place xs ys held =
+    let turned = AreHeld-turned m xs (place ∷ ys) held in
+    let used = used_parts m ys xs turned.used.1 in
+    let none = none_parts place ys xs turned.apart.0 in
+    let parts = apart_parts ys xs turned.apart.1 in
+    record {
+      used = (turned.used.0, used_joined m xs ys used.1 used.0);
+      apart = (none_joined place xs ys none.1 none.0, apart_joined xs ys (record { front = parts.back; back = parts.front; between = among_turned ys xs parts.between }));
     }
 
 -- Some of held places are held.

@@ -2,3 +2,4 @@ mod Writing
 mod Putting
 pub mod ValueLaws
 pub mod HeldLaws
+pub mod OneFree

@@ -1,0 +1,124 @@
+-- Laws of the creation of cvars, over the definitions alone: what the console needs.
+use Rattle.std.proofs.Common.{◌≡◌, ℕ, List, [], ◌∷◌, ◌++◌, Option, Some, None, Result, Ok, Err, map, refl, sym, ap, subst, ◌∙◌}
+use Rattle.std.specs.Prelude.{IsSome}
+use Rattle.std.specs.Option.{option_map}
+use Rattle.std.specs.List.{AllByRecursion}
+use Rattle.std.proofs.lemmas.List.{append-nil}
+use Rattle.mem_model.specs.Memory.{Memory}
+use Rattle.mem_model.specs.Answer.{Answered}
+use Rattle.mem_model.specs.Laid.{Laid, IsText}
+use Rattle.mem_model.specs.Zone.{zone_bytes}
+use Rattle.mem_model.specs.Apart.{NoneIs, AreUsed, AreApart}
+use Rattle.zone_values.specs.Held.{AreHeld}
+use Rattle.zone_values.specs.Values.{value_at, put_value}
+use Rattle.zone_values.proofs.ValueLaws.{Laid-put_value, zone_bytes-put_value, value_at-put_value, some-put_new, size-put_value, low-put_value, high-put_value, temp-put_value}
+use Rattle.zone_values.proofs.HeldLaws.{value_at-kept, AreHeld-put_new, AreHeld-first}
+use Rattle.cvar_table.specs.Cvars.{Cvar, Default, created, created_by, created_first, places_of, HoldsCvars}
+
+-- what is so of the memory after the first block, and after the rest
+by_first : (P : Memory → Type 0) (name : List ℕ) (answer : Result ℕ ℕ) (n : Memory) (rest : Memory → Answered (Result (List Cvar) ℕ)) → P n → P (rest n).after → P (created_by name answer n rest).after
+by_first P name (Ok place) n rest first all = all
+by_first P name (Err asked) n rest first all = first
+
+-- Creating keeps a memory laid out.
+pub Laid-created : (m : Memory) (ds : List Default) → Laid m → Laid (created m ds).after
+unfolding created
+Laid-created m [] laid = laid
+Laid-created m (d ∷ ds) laid =
+    let first = Laid-put_value m d.value laid in
+    by_first Laid d.name _ _ (λ n. created n ds) first (Laid-created (put_value m d.value).after ds first)
+
+-- It leaves the bytes of each block that was used before.
+pub zone_bytes-created : (m : Memory) (ds : List Default) (place : ℕ) (bytes : List ℕ) → Laid m → zone_bytes m place ≡ Some bytes → zone_bytes (created m ds).after place ≡ Some bytes
+unfolding created
+zone_bytes-created m [] place bytes laid there = there
+zone_bytes-created m (d ∷ ds) place bytes laid there =
+    let first = zone_bytes-put_value m d.value bytes place laid there in
+    by_first (λ n. zone_bytes n place ≡ Some bytes) d.name _ _ (λ n. created n ds) first (zone_bytes-created (put_value m d.value).after ds place bytes (Laid-put_value m d.value laid) first)
+
+-- It doesn't change the hunks.
+pub size-created : (m : Memory) (ds : List Default) → (created m ds).after.size ≡ m.size
+unfolding created
+size-created m [] = refl
+size-created m (d ∷ ds) = let first = size-put_value m d.value in by_first (λ n. n.size ≡ m.size) d.name _ _ (λ n. created n ds) first (size-created (put_value m d.value).after ds ∙ first)
+
+pub low-created : (m : Memory) (ds : List Default) → (created m ds).after.low ≡ m.low
+unfolding created
+low-created m [] = refl
+low-created m (d ∷ ds) = let first = low-put_value m d.value in by_first (λ n. n.low ≡ m.low) d.name _ _ (λ n. created n ds) first (low-created (put_value m d.value).after ds ∙ first)
+
+pub high-created : (m : Memory) (ds : List Default) → (created m ds).after.high ≡ m.high
+unfolding created
+high-created m [] = refl
+high-created m (d ∷ ds) = let first = high-put_value m d.value in by_first (λ n. n.high ≡ m.high) d.name _ _ (λ n. created n ds) first (high-created (put_value m d.value).after ds ∙ first)
+
+pub temp-created : (m : Memory) (ds : List Default) → (created m ds).after.temp ≡ m.temp
+unfolding created
+temp-created m [] = refl
+temp-created m (d ∷ ds) = let first = temp-put_value m d.value in by_first (λ n. n.temp ≡ m.temp) d.name _ _ (λ n. created n ds) first (temp-created (put_value m d.value).after ds ∙ first)
+
+-- What a creation of some cvars did: the block of the first, and the rest.
+pub record IsCreated (m : Memory) (d : Default) (ds : List Default) (cvars : List Cvar) : Type 0 where
+  pub place : ℕ
+  pub others : List Cvar
+  pub put : (put_value m d.value).answer ≡ Ok place
+  pub rest : (created (put_value m d.value).after ds).answer ≡ Ok others
+  pub after : (created m (d ∷ ds)).after ≡ (created (put_value m d.value).after ds).after
+  pub all : cvars ≡ record { name = d.name; place = place } ∷ others
+
+pub is_created : (m : Memory) (d : Default) (ds : List Default) (cvars : List Cvar) → (created m (d ∷ ds)).answer ≡ Ok cvars → IsCreated m d ds cvars
+unfolding created
+is_created m d ds cvars h = by_put (put_value m d.value).answer refl h where
+  by_rest : (place : ℕ) (answer : Result (List Cvar) ℕ) → (put_value m d.value).answer ≡ Ok place → (created (put_value m d.value).after ds).answer ≡ answer → created_first (record { name = d.name; place = place }) answer ≡ Ok cvars → IsCreated m d ds cvars
+  by_rest place (Ok others) put rest e = record {
+    place = place;
+    others = others;
+    put = put;
+    rest = rest;
+    after = ap (λ (answer : Result ℕ ℕ). (created_by d.name answer (put_value m d.value).after (λ n. created n ds)).after) put;
+    all = (let same : record { name = d.name; place = place } ∷ others ≡ cvars = cc in sym same);
+  }
+  by_rest place (Err asked) put rest e = absurd (cc)
+  by_put : (answer : Result ℕ ℕ) → (put_value m d.value).answer ≡ answer → (created_by d.name answer (put_value m d.value).after (λ n. created n ds)).answer ≡ Ok cvars → IsCreated m d ds cvars
+  by_put (Ok place) put e = by_rest place (created (put_value m d.value).after ds).answer put refl e
+  by_put (Err asked) put e = absurd (cc)
+
+-- The places of the new cvars are held, beside any others that were.
+pub AreHeld-created : (m : Memory) (ds : List Default) (cvars : List Cvar) (others : List ℕ) → Laid m → AreHeld m others → (created m ds).answer ≡ Ok cvars → AreHeld (created m ds).after (places_of cvars ++ others)
+unfolding created
+AreHeld-created m [] cvars others laid held h =
+    let none : [] ≡ cvars = cc in
+    subst (λ (cs : List Cvar). AreHeld m (places_of cs ++ others)) none held
+AreHeld-created m (d ∷ ds) cvars others laid held h =
+    let is = is_created m d ds cvars h in
+    let first = AreHeld-put_new m d.value is.place others laid is.put held in
+    let all = AreHeld-created (put_value m d.value).after ds is.others (is.place ∷ others) (Laid-put_value m d.value laid) first is.rest in
+    subst (λ (cs : List Cvar). AreHeld (created m (d ∷ ds)).after (places_of cs ++ others)) (sym is.all)
+    (subst (λ (n : Memory). AreHeld n (is.place ∷ (places_of is.others ++ others))) (sym is.after) (AreHeld-first _ is.place (places_of is.others) others all))
+
+pub HoldsCvars-created : (m : Memory) (ds : List Default) (cvars : List Cvar) → Laid m → (created m ds).answer ≡ Ok cvars → HoldsCvars (created m ds).after cvars
+HoldsCvars-created m ds cvars laid h =
+    subst (λ ps. AreHeld (created m ds).after ps) (append-nil (places_of cvars)) (AreHeld-created m ds cvars [] laid (record { used = tt; apart = tt }) h)
+
+-- The new cvars have the names of the defaults,
+pub names-created : (m : Memory) (ds : List Default) (cvars : List Cvar) → (created m ds).answer ≡ Ok cvars → map (λ (c : Cvar). c.name) cvars ≡ map (λ (d : Default). d.name) ds
+unfolding created
+names-created m [] cvars h = (let none : [] ≡ cvars = cc in ap (map (λ (c : Cvar). c.name)) (sym none))
+names-created m (d ∷ ds) cvars h =
+    let is = is_created m d ds cvars h in
+    ap (map (λ (c : Cvar). c.name)) is.all ∙ ap (λ names. d.name ∷ names) (names-created (put_value m d.value).after ds is.others is.rest)
+
+-- and their values.
+pub values-created : (m : Memory) (ds : List Default) (cvars : List Cvar) → Laid m → AllByRecursion (λ (d : Default). IsText d.value) ds → (created m ds).answer ≡ Ok cvars →
+    map (λ (c : Cvar). value_at (created m ds).after c.place) cvars ≡ map (λ (d : Default). Some d.value) ds
+unfolding created
+values-created m [] cvars laid texts h = (let none : [] ≡ cvars = cc in ap (map (λ (c : Cvar). value_at m c.place)) (sym none))
+values-created m (d ∷ ds) cvars laid texts h =
+    let is = is_created m d ds cvars h in
+    let n = (put_value m d.value).after in
+    let first = Laid-put_value m d.value laid in
+    let kept = value_at-kept n (created n ds).after is.place (some-put_new m d.value is.place laid is.put) (λ bytes there. zone_bytes-created n ds is.place bytes first there) in
+    ap (map (λ (c : Cvar). value_at (created m (d ∷ ds)).after c.place)) is.all
+    ∙ ap (λ (k : Memory). value_at k is.place ∷ map (λ (c : Cvar). value_at k c.place) is.others) is.after
+    ∙ ap (λ v. v ∷ map (λ (c : Cvar). value_at (created n ds).after c.place) is.others) (kept ∙ value_at-put_value m d.value is.place laid texts.0 is.put)
+    ∙ ap (λ vs. Some d.value ∷ vs) (values-created n ds is.others first texts.1 is.rest)

@@ -1,0 +1,35 @@
+use Rattle.std.proofs.Common.{◌≡◌, sym, arith}
+use Rattle.cvar_table.proofs.Calls.{set_done, set_undone, set_nothing, holds_done, holds_undone}
+use Rattle.cvar_table.proofs.Cvars.set.Goals as goal
+
+pub returns-in-Ok-clause-gives : goal.returns-in-Ok-clause-gives
+returns-in-Ok-clause-gives g c =
+    (set_done _ _ c.self.inside.places c.args.self.now c.args.name.now c.args.value.now c.in-Some.at (record { 0 = 0 }) (omega arith) c.self.view_is (sym c.in-Some.ensures) c.in-Ok.place c.in-Ok.ensures.gives).0
+
+pub returns-in-Ok-clause-cvars : goal.returns-in-Ok-clause-cvars
+returns-in-Ok-clause-cvars g c =
+    (set_done _ _ c.self.inside.places c.args.self.now c.args.name.now c.args.value.now c.in-Some.at (record { 0 = 0 }) (omega arith) c.self.view_is (sym c.in-Some.ensures) c.in-Ok.place c.in-Ok.ensures.gives).1
+
+pub returns-in-Ok-clause-holds : goal.returns-in-Ok-clause-holds
+returns-in-Ok-clause-holds g c =
+    let done = set_done _ _ c.self.inside.places c.args.self.now c.args.name.now c.args.value.now c.in-Some.at (record { 0 = 0 }) (omega arith) c.self.view_is (sym c.in-Some.ensures) c.in-Ok.place c.in-Ok.ensures.gives in
+    holds_done _ _ c.args.self.now _ c.args.name.now c.args.value.now _ c.in-Ok.ensures.was_laid c.requires.holds done.0 done.1
+
+pub returns-in-Err-clause-gives : goal.returns-in-Err-clause-gives
+returns-in-Err-clause-gives g c =
+    (set_undone _ _ c.self.inside.places c.args.self.now c.args.name.now c.args.value.now c.in-Some.at (record { 0 = 0 }) (omega arith) c.self.view_is (sym c.in-Some.ensures) _ c.in-Err.error c.in-Err.ensures.gives).0
+
+pub returns-in-Err-clause-cvars : goal.returns-in-Err-clause-cvars
+returns-in-Err-clause-cvars g c =
+    (set_undone _ _ c.self.inside.places c.args.self.now c.args.name.now c.args.value.now c.in-Some.at (record { 0 = 0 }) (omega arith) c.self.view_is (sym c.in-Some.ensures) _ c.in-Err.error c.in-Err.ensures.gives).1
+
+pub returns-in-Err-clause-holds : goal.returns-in-Err-clause-holds
+returns-in-Err-clause-holds g c =
+    let undone = set_undone _ _ c.self.inside.places c.args.self.now c.args.name.now c.args.value.now c.in-Some.at (record { 0 = 0 }) (omega arith) c.self.view_is (sym c.in-Some.ensures) _ c.in-Err.error c.in-Err.ensures.gives in
+    holds_undone _ _ c.args.self.now c.args.name.now c.args.value.now _ c.in-Err.error c.in-Err.ensures.was_laid c.requires.holds undone.0 undone.1
+
+pub returns-in-None-clause-gives : goal.returns-in-None-clause-gives
+returns-in-None-clause-gives g c = (set_nothing _ c.self.inside.places c.args.self.now c.args.name.now c.args.value.now c.self.view_is (sym c.in-None.ensures)).0
+
+pub returns-in-None-clause-cvars : goal.returns-in-None-clause-cvars
+returns-in-None-clause-cvars g c = (set_nothing (g.M.Store.state c.args.store.now) c.self.inside.places c.args.self.now c.args.name.now c.args.value.now c.self.view_is (sym c.in-None.ensures)).1
