@@ -1,17 +1,16 @@
 -- The lines of blocks, one after another.
-use Rattle.std.proofs.Common.{ℕ, ◌+◌, ◌<◌, ◌≡◌, ◌≤◌, List, [], ◌∷◌, ◌++◌, length, drop, get_or, Option, inl, inr, Result, OnOk, OnErr, Some, None, ap, sym, subst, refl, ◌∙◌, arith, append_assoc}
+use Rattle.std.proofs.Common.{ℕ, ◌+◌, ◌<◌, ◌≡◌, ◌≤◌, List, [], ◌∷◌, ◌++◌, length, drop, get_or, Option, inl, inr, Some, None, ap, sym, subst, ◌∙◌}
 use Rattle.std.specs.Prelude.{slice_get}
 use Rattle.std.proofs.lemmas.List.{drop_more, drop_all}
 use Rattle.std.proofs.lemmas.Option.{slice_get_within, slice_get_cases, get_or_from_slice_get}
-use Rattle.outside_io.specs.Streams.{Adds, AddsFront}
+use Rattle.outside_io.specs.Streams.{AddsFront}
 use Rattle.outside_io.proofs.Puts.{PutSoFar, nothing_put}
 use Rattle.mem_model.specs.Memory.{Memory}
 use Rattle.mem_model.specs.Rows.{Row}
 use Rattle.reply_pieces.specs.Pieces.{HoldsBack}
-use Rattle.reply_pieces.proofs.Holding.{next_held, held_front, held_all, all_ok, failed_last}
-use Rattle.block_report.specs.Reports.{row_line, row_lines, summary, part_lines, report_text}
+use Rattle.reply_pieces.proofs.Holding.{next_held, held_front, held_all}
+use Rattle.block_report.specs.Reports.{row_line, row_lines, summary, part_lines, parts, lines_of, rover_line, report_text}
 use Rattle.block_report.specs.declared.Part.{Part}
-use Rattle.block_report.specs.declared.Part.TheVariants.{Low, High}
 
 -- past the last row nothing is left
 pub past : (rows : List Row) (number : ℕ) → None ≡ slice_get rows number → length rows ≤ number
@@ -38,26 +37,37 @@ module _ (whole : List ℕ) (part : Part) (rows : List Row) (number : ℕ) (held
 
 -- the parts of a report, one after another
 module _ (m : Memory) (fresh : List ℕ) (start : Option (List ℕ)) (none_held : fresh ≡ []) where
-  at_start : PutSoFar (report_text m) start (fresh ++ (summary m ++ (part_lines m Low ++ (part_lines m High ++ [])))) start
+  at_start : PutSoFar (report_text m) start (fresh ++ (summary m ++ (lines_of m parts ++ (rover_line m ++ [])))) start
   unfolding report_text
-  at_start = subst (λ (held : List ℕ). PutSoFar (report_text m) start (held ++ (summary m ++ (part_lines m Low ++ (part_lines m High ++ [])))) start) (sym none_held) (nothing_put (report_text m) start)
+  at_start = subst (λ (held : List ℕ). PutSoFar (report_text m) start (held ++ (summary m ++ (lines_of m parts ++ (rover_line m ++ [])))) start) (sym none_held) (nothing_put (report_text m) start)
 
   pub cut_summary : (now : Option (List ℕ)) → AddsFront (fresh ++ summary m) start now → AddsFront (report_text m) start now
-  cut_summary now part = held_front (report_text m) fresh (summary m) (part_lines m Low ++ (part_lines m High ++ [])) start start now at_start part
+  cut_summary now part = held_front (report_text m) fresh (summary m) (lines_of m parts ++ (rover_line m ++ [])) start start now at_start part
 
   module _ (held : List ℕ) (mid : Option (List ℕ)) (holds : HoldsBack (fresh ++ summary m) held start mid) where
-    after_summary : PutSoFar (report_text m) start (held ++ (part_lines m Low ++ (part_lines m High ++ []))) mid
-    after_summary = next_held (report_text m) fresh (summary m) (part_lines m Low ++ (part_lines m High ++ [])) start start mid at_start held holds
+    after_summary : PutSoFar (report_text m) start (held ++ (lines_of m parts ++ (rover_line m ++ []))) mid
+    after_summary = next_held (report_text m) fresh (summary m) (lines_of m parts ++ (rover_line m ++ [])) start start mid at_start held holds
 
-    pub cut_low : (now : Option (List ℕ)) → AddsFront (held ++ part_lines m Low) mid now → AddsFront (report_text m) start now
-    cut_low now part = held_front (report_text m) held (part_lines m Low) (part_lines m High ++ []) start mid now after_summary part
+    pub cut_parts : (now : Option (List ℕ)) → AddsFront (held ++ lines_of m parts) mid now → AddsFront (report_text m) start now
+    cut_parts now part = held_front (report_text m) held (lines_of m parts) (rover_line m ++ []) start mid now after_summary part
 
-    module _ (held2 : List ℕ) (mid2 : Option (List ℕ)) (holds2 : HoldsBack (held ++ part_lines m Low) held2 mid mid2) where
-      after_low : PutSoFar (report_text m) start (held2 ++ (part_lines m High ++ [])) mid2
-      after_low = next_held (report_text m) held (part_lines m Low) (part_lines m High ++ []) start mid mid2 after_summary held2 holds2
+    module _ (held2 : List ℕ) (mid2 : Option (List ℕ)) (holds2 : HoldsBack (held ++ lines_of m parts) held2 mid mid2) where
+      after_parts : PutSoFar (report_text m) start (held2 ++ (rover_line m ++ [])) mid2
+      after_parts = next_held (report_text m) held (lines_of m parts) (rover_line m ++ []) start mid mid2 after_summary held2 holds2
 
-      pub cut_high : (now : Option (List ℕ)) → AddsFront (held2 ++ part_lines m High) mid2 now → AddsFront (report_text m) start now
-      cut_high now part = held_front (report_text m) held2 (part_lines m High) [] start mid2 now after_low part
+      pub cut_rover : (now : Option (List ℕ)) → AddsFront (held2 ++ rover_line m) mid2 now → AddsFront (report_text m) start now
+      cut_rover now part = held_front (report_text m) held2 (rover_line m) [] start mid2 now after_parts part
 
-      pub after_high : (held3 : List ℕ) (mid3 : Option (List ℕ)) → HoldsBack (held2 ++ part_lines m High) held3 mid2 mid3 → PutSoFar (report_text m) start (held3 ++ []) mid3
-      after_high held3 mid3 holds3 = next_held (report_text m) held2 (part_lines m High) [] start mid2 mid3 after_low held3 holds3
+      pub after_rover : (held3 : List ℕ) (mid3 : Option (List ℕ)) → HoldsBack (held2 ++ rover_line m) held3 mid2 mid3 → PutSoFar (report_text m) start (held3 ++ []) mid3
+      after_rover held3 mid3 holds3 = next_held (report_text m) held2 (rover_line m) [] start mid2 mid3 after_parts held3 holds3
+
+-- the lines of the parts, one part after another
+module _ (whole : List ℕ) (m : Memory) (all : List Part) (number : ℕ) (d : Part) (held : List ℕ) (start mid now : Option (List ℕ)) (inside : number < length all) (so_far : PutSoFar whole start (held ++ lines_of m (drop number all)) mid) where
+  part_here : PutSoFar whole start (held ++ (part_lines m (get_or all number d) ++ lines_of m (drop (number + 1) all))) mid
+  part_here = subst (λ (r : List Part). PutSoFar whole start (held ++ lines_of m r) mid) (drop_more all number d inside) so_far
+
+  pub next_part : (held2 : List ℕ) → HoldsBack (held ++ part_lines m (get_or all number d)) held2 mid now → PutSoFar whole start (held2 ++ lines_of m (drop (number + 1) all)) now
+  next_part held2 holds = next_held whole held (part_lines m (get_or all number d)) (lines_of m (drop (number + 1) all)) start mid now part_here held2 holds
+
+  pub cut_part : AddsFront (held ++ part_lines m (get_or all number d)) mid now → AddsFront whole start now
+  cut_part part = held_front whole held (part_lines m (get_or all number d)) (lines_of m (drop (number + 1) all)) start mid now part_here part

@@ -6,7 +6,7 @@ ghost use Rattle.outside_io.specs.Causes.{HasCause};
 ghost use Rattle.outside_io.specs.Streams.{Adds, AddsFront};
 ghost use Rattle.mem_model.specs.Told.{row_of, row_answer};
 ghost use Rattle.reply_pieces.specs.Pieces.{HoldsBack};
-ghost use Rattle.block_report.specs.Reports.{summary, rows_of, row_line, part_lines, report_text};
+ghost use Rattle.block_report.specs.Reports.{summary, rows_of, label, row_line, part_lines, parts, lines_of, rover_line, report_text};
 
 use base_fields::before_zero;
 use mem_model::{BlockRow, Store};
@@ -18,7 +18,11 @@ use reply_pieces::{Piece, Reply};
 enum Part {
     Low,
     High,
+    Zone,
 }
+
+// The parts in the order of a report.
+const PARTS: [Part; 3] = [Part::Low, Part::High, Part::Zone];
 
 impl Part {
     // The block of a number, from the lowest place upwards.
@@ -28,6 +32,18 @@ impl Part {
         match self {
             Part::Low => store.low_row(number),
             Part::High => store.high_row(number),
+            Part::Zone => store.zone_row(number),
+        }
+    }
+
+    // What the line of a block says of it.
+    fn label(self, row: &BlockRow) -> &[u8]
+        ensures { result.now ≡ label self (row_of row.now) }
+    {
+        match self {
+            Part::Low | Part::High => before_zero(&row.name),
+            Part::Zone if row.used => b"used",
+            Part::Zone => b"free",
         }
     }
 
@@ -45,6 +61,7 @@ impl Part {
         let title: &[u8] = match self {
             Part::Low => b"low ",
             Part::High => b"high ",
+            Part::Zone => b"zone ",
         };
         reply.add_all(
             &[
@@ -53,7 +70,7 @@ impl Part {
                 Piece::Text(b" "),
                 Piece::Number(u64::from(row.size)),
                 Piece::Text(b" "),
-                Piece::Text(before_zero(&row.name)),
+                Piece::Text(self.label(row)),
                 Piece::Text(b"\n"),
             ],
             out,
@@ -111,8 +128,37 @@ fn add_summary<M: Store, O: Sink>(
     )
 }
 
-/// Puts the sizes of the memory, and then a line for each block: those of the low hunk and those of the high hunk, each in
-/// rising order of place.
+// Adds the lines of all parts.
+fn add_parts<M: Store, O: Sink>(store: &M, reply: &mut Reply, out: &mut O) -> Result<(), SinkFailed>
+    ensures added { OnOk result (HoldsBack (reply.old ++ lines_of (M.state store.now) parts) reply.new (O.got out.old) (O.got out.new)) }
+    ensures part { OnErr result (AddsFront (reply.old ++ lines_of (M.state store.now) parts) (O.got out.old) (O.got out.new)) }
+    ensures cause { HasCause (O.sink_faults out.old) (O.sink_faults out.new) result }
+{
+    for part in PARTS {
+        if let Err(failed) = part.add_rows(store, reply, out) {
+            return Err(failed);
+        }
+    }
+    Ok(())
+}
+
+fn add_rover<M: Store, O: Sink>(store: &M, reply: &mut Reply, out: &mut O) -> Result<(), SinkFailed>
+    ensures added { OnOk result (HoldsBack (reply.old ++ rover_line (M.state store.now)) reply.new (O.got out.old) (O.got out.new)) }
+    ensures part { OnErr result (AddsFront (reply.old ++ rover_line (M.state store.now)) (O.got out.old) (O.got out.new)) }
+    ensures cause { HasCause (O.sink_faults out.old) (O.sink_faults out.new) result }
+{
+    reply.add_all(
+        &[
+            Piece::Text(b"rover "),
+            Piece::Number(u64::from(store.rover())),
+            Piece::Text(b"\n"),
+        ],
+        out,
+    )
+}
+
+/// Puts the sizes of the memory, a line for each block, and the place of the zone's rover: the blocks of the low hunk, those
+/// of the high hunk and those of the zone, each in rising order of place.
 ///
 /// It takes no memory, and asks the store for each block once, in order. A failure has put a front of the text.
 pub fn report<M: Store, O: Sink>(store: &M, out: &mut O) -> Result<(), SinkFailed>
@@ -124,10 +170,10 @@ pub fn report<M: Store, O: Sink>(store: &M, out: &mut O) -> Result<(), SinkFaile
     if let Err(failed) = add_summary(store, &mut reply, out) {
         return Err(failed);
     }
-    if let Err(failed) = Part::Low.add_rows(store, &mut reply, out) {
+    if let Err(failed) = add_parts(store, &mut reply, out) {
         return Err(failed);
     }
-    if let Err(failed) = Part::High.add_rows(store, &mut reply, out) {
+    if let Err(failed) = add_rover(store, &mut reply, out) {
         return Err(failed);
     }
     reply.finish(out)

@@ -1,4 +1,4 @@
-use Rattle.std.proofs.Common.{◌++◌, ◌≤◌, arith}
+use Rattle.std.proofs.Common.{◌++◌, arith}
 use Rattle.mem_model.specs.Told.{row_of}
 use Rattle.block_report.specs.Reports.{rows_of, part_lines}
 use Rattle.block_report.proofs.Adding.{past, next_row, cut_row, last_row}

@@ -1,6 +1,5 @@
 use Rattle.std.proofs.Common.{◌≤◌, ◌++◌, drop}
 use Rattle.outside_io.proofs.Puts.{PutSoFar}
-use Rattle.mem_model.specs.Laid.{Laid}
 use Rattle.block_report.specs.Reports.{rows_of, row_lines, part_lines}
 use Rattle.block_report.proofs.Part.add_rows.Given as goal
 
