@@ -24,7 +24,7 @@ fn each_block_has_its_line(rt: HostRuntime) -> Result<(), Fail> {
     let mut out = MemSink::create(alloc, 1000, Vec::new(alloc))?;
     report(&store, &mut out)?;
     assert_eq!(rt; out.got(), text.as_bytes());
-    for room in [0, 100, 138, 190] {
+    for room in [0, 100, 138, 182] {
         let mut short = MemSink::create(alloc, room, Vec::new(alloc))?;
         assert!(rt; report(&store, &mut short).is_err());
         assert!(rt; text.as_bytes().starts_with(short.got()), "at {room}");
