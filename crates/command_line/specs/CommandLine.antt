@@ -69,7 +69,12 @@ given_or quantity settings = unwrap_or (given quantity settings) (default_of qua
 
 -- what such a line asks for
 abbrev pub asked : List Setting → List (List ℕ) → Request
-asked settings folders = record { heap = given_or Heap settings; zone = given_or Zone settings; first = 2 * length settings; folders = length folders }
+asked settings folders = record {
+  heap = given_or Heap settings;
+  zone = given_or Zone settings;
+  first = 2 * length settings;
+  folders = length folders;
+}
 
 -- the words are a lawful line, and ask for this
 pub record IsAsked (words : List (List ℕ)) (most : ℕ) (request : Request) : Type 0 where

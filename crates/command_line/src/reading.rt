@@ -17,7 +17,8 @@ pub(crate) enum Quantity {
 impl Quantity {
     // The quantity that an option of this name sets.
     fn named(word: &[u8]) -> Option<Quantity>
-        ensures { MatchOption result ((quantity : Quantity) → word.now ≢ name_of quantity) (λ quantity. word.now ≡ name_of quantity) }
+        ensures { MatchOption result ((quantity : Quantity) → word.now ≢ name_of quantity)
+            (λ quantity. word.now ≡ name_of quantity) }
     {
         if word == b"-heapsize".as_slice() {
             Some(Quantity::Heap)
