@@ -1,4 +1,3 @@
-pub mod Words
 pub mod Mounts
 pub mod States
 pub mod Holding

@@ -11,7 +11,6 @@ mod session;
 mod status;
 mod top;
 mod verbs;
-mod words;
 
 pub use ends::StepEnd;
 pub use paths::{MountError, Paths};

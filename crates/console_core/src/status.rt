@@ -14,6 +14,8 @@ pub enum Status<F: Folder = Box<dyn Folder>> {
     Usage { word: u32 },
     /// The host had no memory for a block.
     OutOfMemory,
+    /// The heap does not hold the zone.
+    TooSmall,
     /// A read of the script failed. The lines that ended before it were run.
     ScriptFault,
     /// A call of the folder of this word failed. The folder is handed back with its counts.
@@ -32,6 +34,7 @@ pub fn exit_code(status: &Status) -> u8
         Status::Done => 0,
         Status::Usage { .. } => 1,
         Status::OutOfMemory => 2,
+        Status::TooSmall => 3,
         Status::ScriptFault => 5,
         Status::FolderFault { .. } => 6,
         Status::WriteFault => 7,
@@ -49,6 +52,7 @@ fn text<F: Folder>(status: &Status<F>) -> &'static str
             "usage: quake_cli [-heapsize KB] [-zone KB] [-speed HZ] folder ..."
         }
         Status::OutOfMemory => "out of memory",
+        Status::TooSmall => "heap too small",
         Status::ScriptFault => "script read fault",
         Status::FolderFault { .. } => "folder read fault",
         Status::WriteFault => "write fault",

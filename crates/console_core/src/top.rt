@@ -1,23 +1,20 @@
 // The top call.
-ghost use Rattle.std.specs.Prelude.{◌≡◌, ◌↔◌, ◌<◌, ◌≤◌, ◌-◌, map, string_bytes, vec_len, length, IfSome, IsOk, IsSomeAnd, Ok, Some, None, false};
+ghost use Rattle.std.specs.Prelude.{◌≡◌, ◌↔◌, ◌<◌, ◌≤◌, ◌-◌, ◌^◌, map, string_bytes, vec_len, length, IfSome, IsSomeAnd, Some, None, false};
 ghost use Rattle.outside_io.specs.Causes.{Rose};
 ghost use Rattle.console_core.specs.Mounts.{told_files, count_of};
-ghost use Rattle.console_core.specs.Words.{read_words};
 ghost use Rattle.console_core.specs.Sessions.{state_of};
-ghost use Rattle.console_core.specs.Ends.{usage_of, fault_of, told_for, count_for, word_for, first_state, Ends, EndsFor, HasOwnCause, HandsBack, IsFaultOf, IsComplete};
+ghost use Rattle.console_core.specs.Ends.{AsksTooMuch, usage_of, first_state, Ends, HasOwnCause, HandsBack, HasOutcome, IsFaultOf, IsComplete};
+ghost use Rattle.command_line.specs.CommandLine.{IsAsked};
 
 use crate::ends::Fault;
 use crate::paths::Paths;
 use crate::script::{Pending, ReadEnd, run_rest, run_script};
 use crate::session::Session;
 use crate::status::Status;
-use crate::words::{self, Request};
-use mem_model::{PlainStore, Store};
+use command_line::{Request, request_of};
+use mem_model::{PlainStore, Store, StoreStart};
 use outside_io::{Folder, Sink, Source};
 use std::alloc::Global;
-
-// The zone's size in bytes.
-const ZONE: u32 = 48 * 1024;
 
 // How many users the cache has.
 const USERS: u32 = 768;
@@ -66,7 +63,7 @@ fn run_session<M: Store, F: Folder, S: Source, O: Sink>(
     }
 }
 
-// Runs a script over a folder, on a heap of the size that is asked for.
+// Runs a script over a folder, on a heap and a zone of the sizes that are asked for.
 fn run_folder<F: Folder, S: Source, O: Sink>(
     alloc: Global,
     request: Request,
@@ -74,16 +71,21 @@ fn run_folder<F: Folder, S: Source, O: Sink>(
     script: &mut S,
     out: &mut O,
 ) -> Status<F>
-    requires heap { (1024 ≤ request.kilobytes) × (request.kilobytes ≤ 65536) }
+    requires heap { (1024 ≤ request.heap) × (request.heap ≤ 65536) }
+    requires zone { (4 ≤ request.zone) × (request.zone ≤ 65536) }
+    requires word { request.first < 2 ^ 32 }
     ensures usage { usage_of result ≡ None }
-    ensures ends { Ends (F.files folder) (first_state request.kilobytes) (S.rest script.old) (S.rest script.new) (O.got out.old) (O.got out.new) result }
+    ensures too_small { (result ≡ Status.TooSmall) ↔ AsksTooMuch request }
+    ensures ends { Ends (F.files folder) (first_state request) (S.rest script.old) (S.rest script.new) (O.got out.old) (O.got out.new) result }
     ensures cause { HasOwnCause F.folder_faults (F.folder_faults folder) (S.source_faults script.old) (S.source_faults script.new) (O.sink_faults out.old) (O.sink_faults out.new) result }
-    ensures handed_back { HandsBack F.files (F.files folder) (Some request.folder) result }
+    ensures handed_back { HandsBack F.files (F.files folder) (Some request.first) result }
     ensures script_counts { S.source_faults script.old ≤ S.source_faults script.new }
     ensures sink_counts { O.sink_faults out.old ≤ O.sink_faults out.new }
 {
-    let Ok(store) = PlainStore::create(alloc, 1024 * request.kilobytes, ZONE, USERS) else {
-        return Status::OutOfMemory;
+    let store = match PlainStore::create(alloc, 1024 * request.heap, 1024 * request.zone, USERS) {
+        Ok(store) => store,
+        Err(StoreStart::TooSmall) => return Status::TooSmall,
+        Err(StoreStart::OutOfMemory) => return Status::OutOfMemory,
     };
     let Ok(mut paths) = Paths::create(alloc) else {
         return Status::OutOfMemory;
@@ -92,11 +94,12 @@ fn run_folder<F: Folder, S: Source, O: Sink>(
         return Status::OutOfMemory;
     }
     match Session::start(store, paths) {
-        Ok(session) => run_session(session, request.folder, script, out),
+        Ok(session) => run_session(session, request.first as u32, script, out),
         Err(_) => Status::OutOfMemory,
     }
 }
 
+// Runs a script over the folder that the words ask for.
 fn run<F: Folder, S: Source, O: Sink>(
     alloc: Global,
     words: &[String],
@@ -105,28 +108,28 @@ fn run<F: Folder, S: Source, O: Sink>(
     out: &mut O,
 ) -> Status<F>
     requires one_each { vec_len folders ≡ length words.now }
-    ensures usage { usage_of result ≡ fault_of (read_words (map string_bytes words.now)) }
-    ensures ends { EndsFor (read_words (map string_bytes words.now)) (map F.files folders.items) (S.rest script.old) (S.rest script.new) (O.got out.old) (O.got out.new) result }
-    ensures cause { HasOwnCause F.folder_faults (count_for (read_words (map string_bytes words.now)) (map F.folder_faults folders.items)) (S.source_faults script.old) (S.source_faults script.new) (O.sink_faults out.old) (O.sink_faults out.new) result }
-    ensures handed_back { HandsBack F.files (told_for (read_words (map string_bytes words.now)) (map F.files folders.items)) (word_for (read_words (map string_bytes words.now))) result }
+    requires few { length words.now < 2 ^ 32 }
+    ensures outcome { HasOutcome (map string_bytes words.now) F.files F.folder_faults folders.items (S.rest script.old) (S.rest script.new) (O.got out.old) (O.got out.new) (S.source_faults script.old) (S.source_faults script.new) (O.sink_faults out.old) (O.sink_faults out.new) result }
     ensures script_counts { S.source_faults script.old ≤ S.source_faults script.new }
     ensures sink_counts { O.sink_faults out.old ≤ O.sink_faults out.new }
 {
-    let request = match words::read(words) {
+    let request = match request_of(words, 1) {
         Ok(request) => request,
-        Err(word) => return Status::Usage { word },
+        Err(error) => return Status::Usage { word: error.word },
     };
     let mut folders = folders;
-    let folder = folders.swap_remove(request.folder as usize);
+    let folder = folders.swap_remove(request.first);
     run_folder(alloc, request, folder, script, out)
 }
 
 /// Runs a script over a folder, and puts the replies to its commands.
 ///
-/// The words are `-heapsize` and a number of kilobytes from 1024 to 65536, which may both be left out (16384), and a
-/// folder's word, which isn't empty and doesn't begin with `-`. `Usage` tells the number of the first word that breaks
-/// this, or the number of words where one is missing; it comes before memory is taken, anything is read or anything is
-/// put. The folder of number i stands for word i; those of the other words are dropped unused.
+/// The words are the options `-heapsize` and `-zone`, each with a number of KB, at most once and in any order, and then a
+/// folder's word, which isn't empty and doesn't begin with `-`. A heap has 1024 to 65536 KB, and 16384 where none is asked
+/// for; a zone has 4 to 65536, and 48. `Usage` tells the number of the first word that breaks this, or the number of words
+/// where one is missing; `TooSmall` says that the zone's block exceeds the heap. Both come before memory is taken, anything
+/// is read or anything is put. The folder of number i stands for word i; those of the other words are dropped unused. There
+/// must be fewer than 2^32 words.
 ///
 /// The script is read in pieces of at most 4096 bytes, and every whole line among the bytes taken is run before the next
 /// read; it has at most 1,048,576 bytes, and no piece holds both the last of these and the one after it. A last line
@@ -135,7 +138,7 @@ fn run<F: Folder, S: Source, O: Sink>(
 /// With `Done` the replies of the run over the whole script were put, or those up to `quit`; after `ScriptFault` and
 /// `ScriptTooLong` those over the whole lines before; after `FolderFault` those before one command that asked for a file;
 /// after `WriteFault` those before one reply and a front of that one. `OutOfMemory` comes while the heap is made, before
-/// anything is read, or where a file was to be loaded.
+/// anything is read, or in a command that asked for memory.
 pub fn quake_main<S: Source, O: Sink>(
     alloc: Global,
     words: &[String],
@@ -144,14 +147,12 @@ pub fn quake_main<S: Source, O: Sink>(
     out: &mut O,
 ) -> Status
     requires one_each { vec_len folders ≡ length words.now }
-    ensures usage { usage_of result ≡ fault_of (read_words (map string_bytes words.now)) }
-    ensures ends { EndsFor (read_words (map string_bytes words.now)) (map files folders.items) (S.rest script.old) (S.rest script.new) (O.got out.old) (O.got out.new) result }
-    ensures cause { HasOwnCause folder_faults (count_for (read_words (map string_bytes words.now)) (map folder_faults folders.items)) (S.source_faults script.old) (S.source_faults script.new) (O.sink_faults out.old) (O.sink_faults out.new) result }
-    ensures handed_back { HandsBack files (told_for (read_words (map string_bytes words.now)) (map files folders.items)) (word_for (read_words (map string_bytes words.now))) result }
+    requires few { length words.now < 2 ^ 32 }
+    ensures outcome { HasOutcome (map string_bytes words.now) files folder_faults folders.items (S.rest script.old) (S.rest script.new) (O.got out.old) (O.got out.new) (S.source_faults script.old) (S.source_faults script.new) (O.sink_faults out.old) (O.sink_faults out.new) result }
     ensures script_counts { S.source_faults script.old ≤ S.source_faults script.new }
     ensures sink_counts { O.sink_faults out.old ≤ O.sink_faults out.new }
     ensures too_long { IfSome (S.rest script.old) (λ before. IfSome (S.rest script.new) (λ after. (result ≡ Status.ScriptTooLong) ↔ (1048576 < length before - length after))) }
-    ensures complete { IsOk (read_words (map string_bytes words.now)) → IsSomeAnd (S.rest script.old) (λ bytes. length bytes ≤ 1048576)
+    ensures complete { (request : Request) → IsAsked (map string_bytes words.now) 1 request → (AsksTooMuch request → ⊥) → IsSomeAnd (S.rest script.old) (λ bytes. length bytes ≤ 1048576)
         → (Rose (S.source_faults script.old) (S.source_faults script.new) → ⊥) → (Rose (O.sink_faults out.old) (O.sink_faults out.new) → ⊥) → IsComplete result }
 {
     run(alloc, words, folders, script, out)
