@@ -1,19 +1,23 @@
 -- Laws of the creation of cvars, over the definitions alone: what the console needs.
-use Rattle.std.proofs.Common.{◌≡◌, ℕ, List, [], ◌∷◌, ◌++◌, Option, Some, None, Result, Ok, Err, map, refl, sym, ap, subst, ◌∙◌}
-use Rattle.std.specs.Prelude.{IsSome}
-use Rattle.std.specs.Option.{option_map}
-use Rattle.std.specs.List.{AllByRecursion}
+use Rattle.std.proofs.Common.{◌≡◌, ℕ, ◌+◌, ◌-◌, ◌*◌, ◌<◌, ◌≤◌, ◌≢◌, inl, inr, Bool, true, false, not, cond, eqb, length, arith, bytes_eq, find, List, [], ◌∷◌, ◌++◌, Option, Some, None, Result, Ok, Err, map, refl, sym, ap, subst, ◌∙◌}
+use Rattle.std.specs.Prelude.{IsSome, codes}
+use Rattle.std.specs.Option.{option_map, option_and_then}
+use Rattle.std.specs.List.{AllByRecursion, list_all}
 use Rattle.std.proofs.lemmas.List.{append-nil}
-use Rattle.mem_model.specs.Memory.{Memory}
+use Rattle.std.proofs.lemmas.List.Elements.{All-from_recursion}
+use Rattle.std.proofs.lemmas.Bool.Decides.{eqb_tells}
+use Rattle.mem_model.specs.Memory.{Memory, new_memory}
 use Rattle.mem_model.specs.Answer.{Answered}
 use Rattle.mem_model.specs.Laid.{Laid, IsText}
+use Rattle.mem_model.specs.Places.{zone_need}
 use Rattle.mem_model.specs.Zone.{zone_bytes}
 use Rattle.mem_model.specs.Apart.{NoneIs, AreUsed, AreApart}
 use Rattle.zone_values.specs.Held.{AreHeld}
 use Rattle.zone_values.specs.Values.{value_at, put_value}
 use Rattle.zone_values.proofs.ValueLaws.{Laid-put_value, zone_bytes-put_value, value_at-put_value, some-put_new, size-put_value, low-put_value, high-put_value, temp-put_value}
 use Rattle.zone_values.proofs.HeldLaws.{value_at-kept, AreHeld-put_new, AreHeld-first}
-use Rattle.cvar_table.specs.Cvars.{Cvar, Default, created, created_by, created_first, places_of, HoldsCvars}
+use Rattle.zone_values.proofs.OneFree.{free_sizes, put_value-one_free, free_sizes-put_value}
+use Rattle.cvar_table.specs.Cvars.{Cvar, Default, defaults, cvar_of, cvar_value, created, created_by, created_first, places_of, HoldsCvars}
 
 -- what is so of the memory after the first block, and after the rest
 by_first : (P : Memory → Type 0) (name : List ℕ) (answer : Result ℕ ℕ) (n : Memory) (rest : Memory → Answered (Result (List Cvar) ℕ)) → P n → P (rest n).after → P (created_by name answer n rest).after
@@ -122,3 +126,66 @@ values-created m (d ∷ ds) cvars laid texts h =
     ∙ ap (λ (k : Memory). value_at k is.place ∷ map (λ (c : Cvar). value_at k c.place) is.others) is.after
     ∙ ap (λ v. v ∷ map (λ (c : Cvar). value_at (created n ds).after c.place) is.others) (kept ∙ value_at-put_value m d.value is.place laid texts.0 is.put)
     ∙ ap (λ vs. Some d.value ∷ vs) (values-created n ds is.others first texts.1 is.rest)
+
+-- what is read of cvars whose names and values are those of defaults
+read_back : (n : Memory) (ds : List Default) (cvars : List Cvar) (name : List ℕ) → map (λ (c : Cvar). c.name) cvars ≡ map (λ (d : Default). d.name) ds → map (λ (c : Cvar). value_at n c.place) cvars ≡ map (λ (d : Default). Some d.value) ds →
+    cvar_value n cvars name ≡ option_map (λ (d : Default). d.value) (find (λ (d : Default). bytes_eq d.name name) ds)
+unfolding cvar_value cvar_of
+read_back n [] [] name names values = refl
+read_back n [] (c ∷ cvars) name names values = absurd (cc)
+read_back n (d ∷ ds) [] name names values = absurd (cc)
+read_back n (d ∷ ds) (c ∷ cvars) name names values =
+    let own : c.name ≡ d.name = cc in
+    let value : value_at n c.place ≡ Some d.value = cc in
+    ap (λ (t : Bool). option_and_then (λ (k : Cvar). value_at n k.place) (cond t (Some c) (cvar_of cvars name))) (ap (λ own. bytes_eq own name) own)
+    ∙ (elim (bytes_eq d.name name) as (λ t.
+    option_and_then (λ (k : Cvar). value_at n k.place) (cond t (Some c) (cvar_of cvars name)) ≡ option_map (λ (e : Default). e.value) (cond t (Some d) (find (λ (e : Default). bytes_eq e.name name) ds))) [
+      | true ↦ value
+      | false ↦ read_back n ds cvars name (cc) (cc)
+    ])
+
+-- A cvar is read as the default of its name.
+pub cvar_value-created : (m : Memory) (ds : List Default) (cvars : List Cvar) (name : List ℕ) → Laid m → AllByRecursion (λ (d : Default). IsText d.value) ds → (created m ds).answer ≡ Ok cvars →
+    cvar_value (created m ds).after cvars name ≡ option_map (λ (d : Default). d.value) (find (λ (d : Default). bytes_eq d.name name) ds)
+cvar_value-created m ds cvars name laid texts h = read_back (created m ds).after ds cvars name (names-created m ds cvars h) (values-created m ds cvars laid texts h)
+
+-- bytes that all pass a test for zero are a text
+text_of : (bytes : List ℕ) → list_all (λ byte. not (eqb byte 0)) bytes ≡ true → IsText bytes
+text_of bytes h = All-from_recursion (λ byte. byte ≢ 0) bytes (each bytes h) where
+  each : (bs : List ℕ) → list_all (λ byte. not (eqb byte 0)) bs ≡ true → AllByRecursion (λ byte. byte ≢ 0) bs
+  each [] h = tt
+  each (b ∷ bs) h = elim (eqb_tells b 0) [
+    | inl zero ↦ absurd (let fails = rw zero.0 at h in cc)
+    | inr other ↦ (other.1, each bs (rw other.0 at h))
+  ]
+
+-- the values of the defaults are texts
+defaults_texts : AllByRecursion (λ (d : Default). IsText d.value) defaults
+defaults_texts =
+    (text_of (codes "0") refl, (text_of (codes "0.7") refl, (text_of (codes "1") refl, (text_of (codes "3") refl, (text_of (codes "100") refl, (text_of (codes "0") refl, (text_of (codes "1") refl, (text_of (codes "90") refl, tt))))))))
+
+-- what room for each value and 64 bytes more gives
+created_within : (m : Memory) (ds : List Default) (room : ℕ) → Laid m → AllByRecursion (λ (d : Default). length d.value ≤ 3) ds → free_sizes m.zone.blocks ≡ room ∷ [] → 32 * length ds + 64 < room →
+    (cvars : List Cvar) × ((created m ds).answer ≡ Ok cvars)
+unfolding created
+created_within m [] room laid short free fits = ([], refl)
+created_within m (d ∷ ds) room laid short free fits =
+    let need : zone_need (length d.value + 1) ≡ 32 = omega (arith, short.0) in
+    let put = put_value-one_free m d.value room free (omega (arith, need)) in
+    let n = (put_value m d.value).after in
+    let rest = created_within n ds (room - zone_need (length d.value + 1)) (Laid-put_value m d.value laid) short.1 (free_sizes-put_value m d.value room laid free (omega (arith, need))) (omega (arith, need)) in
+    (record { name = d.name; place = put.0 } ∷ rest.0,
+      ap (λ (answer : Result ℕ ℕ). (created_by d.name answer n (λ k. created k ds)).answer) put.1 ∙ ap (created_first (record { name = d.name; place = put.0 })) rest.1)
+
+-- Over a zone with one free block of more than 320 bytes, as that of a new store has, no default is refused.
+pub created_whole : (m : Memory) (room : ℕ) → Laid m → free_sizes m.zone.blocks ≡ room ∷ [] → 320 < room → (cvars : List Cvar) × ((created m defaults).answer ≡ Ok cvars)
+created_whole m room laid free fits =
+    created_within m defaults room laid (omega arith, (omega arith, (omega arith, (omega arith, (omega arith, (omega arith, (omega arith, (omega arith, tt)))))))) free fits
+
+pub created_new : (size zone users event_room : ℕ) → Laid (new_memory size zone users event_room) → 4096 ≤ zone → (cvars : List Cvar) × ((created (new_memory size zone users event_room) defaults).answer ≡ Ok cvars)
+created_new size zone users event_room laid large = created_whole (new_memory size zone users event_room) (zone - 32) laid refl (omega arith)
+
+-- The defaults are read back.
+pub cvar_value-defaults : (m : Memory) (cvars : List Cvar) (name : List ℕ) → Laid m → (created m defaults).answer ≡ Ok cvars →
+    cvar_value (created m defaults).after cvars name ≡ option_map (λ (d : Default). d.value) (find (λ (d : Default). bytes_eq d.name name) defaults)
+cvar_value-defaults m cvars name laid h = cvar_value-created m defaults cvars name laid defaults_texts h
