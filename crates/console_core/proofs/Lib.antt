@@ -10,4 +10,6 @@ pub mod Loading
 pub mod Shortening
 pub mod Scripts
 pub mod Whole
+pub mod Asking
+pub mod Completing
 pub mod Faulting

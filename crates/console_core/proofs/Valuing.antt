@@ -1,7 +1,8 @@
 -- What commands on aliases and cvars did.
-use Rattle.std.proofs.Common.{◌≡◌, ◌≢◌, ℕ, zero, suc, arith, drop, List, [], ◌∷◌, ◌++◌, Bool, true, false, Option, Some, None, Result, Ok, Err, refl, sym, ◌∙◌, ap, if◌then◌else◌}
+use Rattle.std.proofs.Common.{◌≡◌, ◌≢◌, ℕ, zero, suc, arith, drop, length, List, [], ◌∷◌, ◌++◌, Bool, true, false, Option, Some, None, Result, Ok, Err, refl, sym, ◌∙◌, ap, if◌then◌else◌}
 use Rattle.std.specs.Prelude.{codes}
 use Rattle.std.specs.List.{AllByRecursion}
+use Rattle.std.proofs.lemmas.Bool.{eq-eqb, ne_eqb}
 use Rattle.std.proofs.lemmas.List.Elements.{All-nil, All-cons, All-append}
 use Rattle.mem_model.specs.Memory.{Memory}
 use Rattle.mem_model.specs.Laid.{IsText}
@@ -11,7 +12,7 @@ use Rattle.cvar_table.specs.Cvars.{Cvar, CvarSet}
 use Rattle.cmd_buffer.specs.Aliases.{AliasSet, AliasRefusal, set_alias}
 use Rattle.cmd_buffer.specs.AliasCalls.{IsSet}
 use Rattle.console_core.specs.States.{State, Replies, Follows, says}
-use Rattle.console_core.specs.Commands.{fits_in, word_at, spaced, full_text, answer_expansion, cvar_was_set, cvar_set_text, make_alias, alias_was_set, alias_set_text}
+use Rattle.console_core.specs.Commands.{fits_in, word_at, spaced, full_text, answer_expansion, cvar_was_set, cvar_set_text, answer_alias, list_aliases, make_alias, alias_was_set, alias_set_text}
 use Rattle.console_core.specs.declared.ends.Next.{Next}
 use Rattle.console_core.specs.declared.ends.Next.TheVariants.{Goes}
 use Rattle.console_core.specs.declared.ends.Fault.{Fault}
@@ -75,3 +76,10 @@ drop_texts (suc n) (word ∷ words) all = drop_texts n words all.1
 -- the value that the words of `alias` make has none
 pub value_text : (words : List (List ℕ)) → AllByRecursion IsText words → IsText (spaced (drop 2 words))
 value_text words all = spaced_text (drop 2 words) (drop_texts 2 words all)
+
+-- `alias` alone, and with words
+pub alias_alone : (s : State) (words : List (List ℕ)) → length words ≡ 1 → answer_alias s words ≡ list_aliases s
+alias_alone s words one = rw (eq-eqb (length words) 1 one) refl
+
+pub alias_with_words : (s : State) (words : List (List ℕ)) → length words ≢ 1 → answer_alias s words ≡ make_alias s words
+alias_with_words s words more = rw (ne_eqb (length words) 1 more) refl

@@ -43,6 +43,7 @@ fn run_session<M: Store, F: Folder, S: Source, O: Sink>(
 ) -> Status<F>
     requires going { session.ended ≡ false }
     ensures usage { usage_of result ≡ None }
+    ensures not_small { result ≡ Status.TooSmall → ⊥ }
     ensures ends { Ends (told_files F.files session.paths) (state_of M.state session) (S.rest script.old) (S.rest script.new) (O.got out.old) (O.got out.new) result }
     ensures cause { HasOwnCause F.folder_faults (count_of F.folder_faults session.paths) (S.source_faults script.old) (S.source_faults script.new) (O.sink_faults out.old) (O.sink_faults out.new) result }
     ensures handed_back { HandsBack F.files (told_files F.files session.paths) (Some word) result }

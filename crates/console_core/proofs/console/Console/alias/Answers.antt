@@ -1,0 +1,13 @@
+use Rattle.std.proofs.Common.{sym, ◌∙◌}
+use Rattle.console_core.specs.Mounts.{told_files}
+use Rattle.console_core.specs.Commands.{answer_alias, list_aliases, make_alias}
+use Rattle.console_core.specs.Sessions.{state_of}
+use Rattle.console_core.proofs.Following.{of_files, same_did}
+use Rattle.console_core.proofs.Valuing.{alias_alone, alias_with_words}
+use Rattle.console_core.proofs.console.Console.alias.Goals as goal
+
+pub returns-then-count-eq1-clause-told : goal.returns-then-count-eq1-clause-told
+returns-then-count-eq1-clause-told g c =
+    let s = state_of g.M.Store.state c.args.self.now in
+    of_files (told_files g.F.Folder.files c.args.self.now.paths) c.list_aliases.ensures.told (λ files follows.
+    same_did (answer_alias s c.args.words.now) (list_aliases s) _ _ _ _ (alias_alone s c.args.words.now (sym c.count.ensures.value ∙ c.if-count-eq1.true)) follows)
