@@ -143,3 +143,6 @@ impl Cvars {
         }
     }
 }
+
+#[cfg(test)]
+mod tests;
