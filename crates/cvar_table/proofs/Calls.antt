@@ -16,13 +16,14 @@ use Rattle.cvar_table.proofs.CvarLaws.{set_cvar-found, set_cvar-refused, set_cva
 
 -- the outcomes, where the default of the name stands at a position
 module _ (m n : Memory) (places : List Place) (cvars : List Cvar) (name value : List ℕ) (at : ℕ) (d : Place)
-  (eight : length places ≡ 8) (view : listed defaults places ≡ cvars) (here : position (λ (own : Default). bytes_eq own.name name) defaults ≡ Some at) where
+    (eight : length places ≡ 8) (view : listed defaults places ≡ cvars) (here : position (λ (own : Default). bytes_eq own.name name) defaults ≡ Some at) where
   pub set_done : (place : Place) → Answers (replace_value m (get_or places at d).0 value) (Ok place.0) n →
       Answers (set_cvar m cvars name value).given (Ok true) n × (listed defaults (slice_set places at place) ≡ (set_cvar m cvars name value).cvars)
   set_done place given =
-      let is = set_cvar-found m cvars name value _ place.0 (cvar_found places name eight cvars view at d here).1 given.answer in
-      (record { answer = ap (λ (s : CvarSet). s.given.answer) is; after = given.after ∙ sym (ap (λ (s : CvarSet). s.given.after) is) },
-        cvar_placed places name eight cvars view at place here ∙ sym (ap (λ (s : CvarSet). s.cvars) is))
+      let is = set_cvar-found m cvars name value _ place.0 (cvar_found places name eight cvars view at d here).1 given.answer in (
+        record { answer = ap (λ (s : CvarSet). s.given.answer) is; after = given.after ∙ sym (ap (λ (s : CvarSet). s.given.after) is) },
+        cvar_placed places name eight cvars view at place here ∙ sym (ap (λ (s : CvarSet). s.cvars) is),
+      )
 
   pub set_undone : (frugal : Bool) (error : ZoneError) → Gives (replace_value m (get_or places at d).0 value) frugal m (zone_answer (Err error)) n →
       Gives (set_cvar m cvars name value).given frugal m (zone_told {A = Bool} (Err error)) n × IfSome (zone_told {A = Bool} (Err error)) (λ told. cvars ≡ (set_cvar m cvars name value).cvars)
@@ -33,7 +34,7 @@ module _ (m n : Memory) (places : List Place) (cvars : List Cvar) (name value : 
 
 -- the outcome without a default of the name
 module _ (m : Memory) (places : List Place) (cvars : List Cvar) (name value : List ℕ)
-  (view : listed defaults places ≡ cvars) (nowhere : position (λ (own : Default). bytes_eq own.name name) defaults ≡ None) where
+    (view : listed defaults places ≡ cvars) (nowhere : position (λ (own : Default). bytes_eq own.name name) defaults ≡ None) where
   pub set_nothing : Answers (set_cvar m cvars name value).given (Ok false) m × (cvars ≡ (set_cvar m cvars name value).cvars)
   set_nothing =
       let is = set_cvar-missing m cvars name value (cvar_missing places name cvars view nowhere) in

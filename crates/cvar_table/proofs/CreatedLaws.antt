@@ -83,6 +83,7 @@ is_created m d ds cvars h = by_put (put_value m d.value).answer refl h where
     all = (let same : record { name = d.name; place = place } ∷ others ≡ cvars = cc in sym same);
   }
   by_rest place (Err asked) put rest e = absurd (cc)
+
   by_put : (answer : Result ℕ ℕ) → (put_value m d.value).answer ≡ answer → (created_by d.name answer (put_value m d.value).after (λ n. created n ds)).answer ≡ Ok cvars → IsCreated m d ds cvars
   by_put (Ok place) put e = by_rest place (created (put_value m d.value).after ds).answer put refl e
   by_put (Err asked) put e = absurd (cc)
@@ -173,9 +174,10 @@ created_within m (d ∷ ds) room laid short free fits =
     let need : zone_need (length d.value + 1) ≡ 32 = omega (arith, short.0) in
     let put = put_value-one_free m d.value room free (omega (arith, need)) in
     let n = (put_value m d.value).after in
-    let rest = created_within n ds (room - zone_need (length d.value + 1)) (Laid-put_value m d.value laid) short.1 (free_sizes-put_value m d.value room laid free (omega (arith, need))) (omega (arith, need)) in
-    (record { name = d.name; place = put.0 } ∷ rest.0,
-      ap (λ (answer : Result ℕ ℕ). (created_by d.name answer n (λ k. created k ds)).answer) put.1 ∙ ap (created_first (record { name = d.name; place = put.0 })) rest.1)
+    let rest = created_within n ds (room - zone_need (length d.value + 1)) (Laid-put_value m d.value laid) short.1 (free_sizes-put_value m d.value room laid free (omega (arith, need))) (omega (arith, need)) in (
+      record { name = d.name; place = put.0 } ∷ rest.0,
+      ap (λ (answer : Result ℕ ℕ). (created_by d.name answer n (λ k. created k ds)).answer) put.1 ∙ ap (created_first (record { name = d.name; place = put.0 })) rest.1,
+    )
 
 -- Over a zone with one free block of more than 320 bytes, as that of a new store has, no default is refused.
 pub created_whole : (m : Memory) (room : ℕ) → Laid m → free_sizes m.zone.blocks ≡ room ∷ [] → 320 < room → (cvars : List Cvar) × ((created m defaults).answer ≡ Ok cvars)

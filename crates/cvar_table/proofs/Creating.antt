@@ -40,7 +40,7 @@ created-front m n [] ys front given =
     let none : [] ≡ front = (let ok = given.answer in cc) in
     subst (λ (f : List Cvar). created m ys ≡ with_front f (created n ys)) none
     (subst (λ (k : Memory). created m ys ≡ with_front [] (created k ys)) (sym given.after)
-      (ap (λ (answer : Result (List Cvar) ℕ). record { answer = answer; after = (created m ys).after }) (sym (fronted_none (created m ys).answer))))
+    (ap (λ (answer : Result (List Cvar) ℕ). record { answer = answer; after = (created m ys).after }) (sym (fronted_none (created m ys).answer))))
 created-front m n (d ∷ xs) ys front given =
     let is = is_created m d xs front given.answer in
     let k = (put_value m d.value).after in
@@ -48,8 +48,8 @@ created-front m n (d ∷ xs) ys front given =
     let others = created-front k n xs ys is.others (record { answer = is.rest; after = given.after ∙ is.after }) in
     subst (λ (f : List Cvar). created m (d ∷ (xs ++ ys)) ≡ with_front f (created n ys)) (sym is.all)
     (ap (λ (answer : Result ℕ ℕ). created_by d.name answer k (λ j. created j (xs ++ ys))) is.put
-      ∙ ap (λ (a : Answered (Result (List Cvar) ℕ)). record { answer = created_first cvar a.answer; after = a.after }) others
-      ∙ ap (λ (answer : Result (List Cvar) ℕ). record { answer = answer; after = (created n ys).after }) (fronted_first cvar is.others (created n ys).answer))
+    ∙ ap (λ (a : Answered (Result (List Cvar) ℕ)). record { answer = created_first cvar a.answer; after = a.after }) others
+    ∙ ap (λ (answer : Result (List Cvar) ℕ). record { answer = answer; after = (created n ys).after }) (fronted_first cvar is.others (created n ys).answer))
 
 -- what the next default gives, behind those that were created
 pub created-next : (m n : Memory) (xs ys : List Default) (d : Default) (front : List Cvar) → Answers (created m xs) (Ok front) n →

@@ -50,10 +50,10 @@ set_cvar-missing m cvars name value missing = ap (set_found m cvars name value) 
 
 -- What is so of the three outcomes is so of setting.
 module _ (P : CvarSet → Type 0) (m : Memory) (cvars : List Cvar) (name value : List ℕ)
-  (missing : cvar_of cvars name ≡ None → P (record { given = record { answer = Ok false; after = m }; cvars = cvars }))
-  (refused : (cvar : Cvar) (told : ℕ) → cvar_of cvars name ≡ Some cvar → (replace_value m cvar.place value).answer ≡ Err told →
+    (missing : cvar_of cvars name ≡ None → P (record { given = record { answer = Ok false; after = m }; cvars = cvars }))
+    (refused : (cvar : Cvar) (told : ℕ) → cvar_of cvars name ≡ Some cvar → (replace_value m cvar.place value).answer ≡ Err told →
     P (record { given = record { answer = Err told; after = (replace_value m cvar.place value).after }; cvars = cvars }))
-  (set : (cvar : Cvar) (place : ℕ) → cvar_of cvars name ≡ Some cvar → (replace_value m cvar.place value).answer ≡ Ok place →
+    (set : (cvar : Cvar) (place : ℕ) → cvar_of cvars name ≡ Some cvar → (replace_value m cvar.place value).answer ≡ Ok place →
     P (record { given = record { answer = Ok true; after = (replace_value m cvar.place value).after }; cvars = with_place cvars name place })) where
   by_answer : (cvar : Cvar) (answer : Result ℕ ℕ) → cvar_of cvars name ≡ Some cvar → (replace_value m cvar.place value).answer ≡ answer → P (set_by cvars name (replace_value m cvar.place value) answer)
   by_answer cvar (Ok place) found given = set cvar place found given
@@ -157,13 +157,13 @@ cvar_value-set_other m cvars name value other laid holds differ =
     (λ cvar told h k. cvar_value-kept m _ cvars other (λ place bytes there. zone_bytes-same _ m place (replace_value-refusal m value cvar.place told k).1 ∙ there) holds)
     (λ cvar place h k. by cvar place h (cvar_of cvars other) refl)
   where
-  by : (cvar : Cvar) (place : ℕ) → cvar_of cvars name ≡ Some cvar → (o : Option Cvar) → cvar_of cvars other ≡ o →
-      cvar_value (replace_value m cvar.place value).after (with_place cvars name place) other ≡ cvar_value m cvars other
-  by cvar place h None k = value_of_none _ (with_place cvars name place) other (cvar_of-elsewhere cvars name other place differ ∙ k) ∙ sym (value_of_none m cvars other k)
-  by cvar place h (Some another) k =
-      value_of_cvar _ (with_place cvars name place) other another (cvar_of-elsewhere cvars name other place differ ∙ k)
-      ∙ value_at-kept m _ another.place (some-cvar m cvars other another holds k) (λ bytes there. zone_bytes-replace_value m value bytes cvar.place another.place laid (cvars_apart cvars name other cvar another holds.apart differ h k) there)
-      ∙ sym (value_of_cvar m cvars other another k)
+    by : (cvar : Cvar) (place : ℕ) → cvar_of cvars name ≡ Some cvar → (o : Option Cvar) → cvar_of cvars other ≡ o →
+        cvar_value (replace_value m cvar.place value).after (with_place cvars name place) other ≡ cvar_value m cvars other
+    by cvar place h None k = value_of_none _ (with_place cvars name place) other (cvar_of-elsewhere cvars name other place differ ∙ k) ∙ sym (value_of_none m cvars other k)
+    by cvar place h (Some another) k =
+        value_of_cvar _ (with_place cvars name place) other another (cvar_of-elsewhere cvars name other place differ ∙ k)
+        ∙ value_at-kept m _ another.place (some-cvar m cvars other another holds k) (λ bytes there. zone_bytes-replace_value m value bytes cvar.place another.place laid (cvars_apart cvars name other cvar another holds.apart differ h k) there)
+        ∙ sym (value_of_cvar m cvars other another k)
 
 -- Setting doesn't change the hunks.
 pub size-set_cvar : (m : Memory) (cvars : List Cvar) (name value : List ℕ) → (set_cvar m cvars name value).given.after.size ≡ m.size

@@ -1,6 +1,5 @@
 -- The cvars at an array of places, and the one of a name.
 use Rattle.std.proofs.Common.{◌≡◌, ℕ, ◌+◌, ◌<◌, ◌≤◌, suc, List, [], ◌∷◌, Option, Some, None, true, false, not, cond, length, get_or, refl, sym, ap, subst, ◌∙◌, arith, Bool, inl, inr, bytes_eq}
-
 use Rattle.std.proofs.lemmas.Bool.{cases_lt, lt-ltb, le-ltb}
 use Rattle.std.specs.Prelude.{slice_set, is_some, IsSome}
 use Rattle.std.specs.Option.{option_map}
@@ -52,7 +51,7 @@ placed (x ∷ ds) (p ∷ places) name at new same is inside =
     ≡ cond t (record { name = x.name; place = new.0 } ∷ listed ds places) (record { name = x.name; place = p.0 } ∷ with_place (listed ds places) name new.0)) [
       | true ↦ λ here. rw here refl
       | false ↦ λ there. (let next : at ≡ suc (place_in ds name) = omega arith in
-      rw next (ap (λ (rest : List Cvar). record { name = x.name; place = p.0 } ∷ rest) (placed ds places name (place_in ds name) new (omega arith) refl (omega arith))))
+          rw next (ap (λ (rest : List Cvar). record { name = x.name; place = p.0 } ∷ rest) (placed ds places name (place_in ds name) new (omega arith) refl (omega arith))))
     ] is
 
 -- where `position` finds an element, there is the first that passes

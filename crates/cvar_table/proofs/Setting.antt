@@ -72,9 +72,9 @@ is_some-with_place (c ∷ cvars) name other new =
     elim (bytes_eq c.name name) as (λ t.
     is_some (cvar_of (cond t (record { name = c.name; place = new } ∷ cvars) (c ∷ with_place cvars name new)) other) ≡ is_some (cvar_of (c ∷ cvars) other)) [
       | true ↦ elim (bytes_eq c.name other) as (λ u.
-        is_some (cond u (Some (let d : Cvar = record { name = c.name; place = new } in d)) (cvar_of cvars other)) ≡ is_some (cond u (Some c) (cvar_of cvars other))) [ true ↦ refl | false ↦ refl ]
+          is_some (cond u (Some (let d : Cvar = record { name = c.name; place = new } in d)) (cvar_of cvars other)) ≡ is_some (cond u (Some c) (cvar_of cvars other))) [ true ↦ refl | false ↦ refl ]
       | false ↦ elim (bytes_eq c.name other) as (λ u.
-        is_some (cond u (Some c) (cvar_of (with_place cvars name new) other)) ≡ is_some (cond u (Some c) (cvar_of cvars other))) [ true ↦ refl | false ↦ is_some-with_place cvars name other new ]
+          is_some (cond u (Some c) (cvar_of (with_place cvars name new) other)) ≡ is_some (cond u (Some c) (cvar_of cvars other))) [ true ↦ refl | false ↦ is_some-with_place cvars name other new ]
     ]
 
 -- a place that is none of the cvars' is not that of one of them

@@ -145,3 +145,6 @@ impl Cvars {
         }
     }
 }
+
+#[cfg(test)]
+mod tests;

@@ -81,11 +81,12 @@ pub zone_bytes-put_new : (m : Memory) (value : List ℕ) (place : ℕ) → Laid 
 zone_bytes-put_new m value place laid h =
     let new = zone_bytes-new m (length value + 1) place laid (given_of_put m value (Ok place) h) in
     let old = replicate new.0 0 in
-    let front = over_front old (with_zero value) (omega (arith, new.1, length-append value (0 ∷ []), length-replicate {A = ℕ} new.0 0)) in
-    (drop (length (with_zero value)) old,
+    let front = over_front old (with_zero value) (omega (arith, new.1, length-append value (0 ∷ []), length-replicate {A = ℕ} new.0 0)) in (
+      drop (length (with_zero value)) old,
       ap (λ (n : Memory). zone_bytes n place) (after_put m value place h ∙ sym (with_zone_bytes-over _ place old (with_zero value) new.2))
-      ∙ zone_bytes-written _ place old (over old (with_zero value)) new.2 (length-over old (with_zero value))
-      ∙ ap Some (front ∙ append_assoc value (0 ∷ []) (drop (length (with_zero value)) old)))
+          ∙ zone_bytes-written _ place old (over old (with_zero value)) new.2 (length-over old (with_zero value))
+          ∙ ap Some (front ∙ append_assoc value (0 ∷ []) (drop (length (with_zero value)) old)),
+    )
 
 -- A new block is used.
 pub some-put_new : (m : Memory) (value : List ℕ) (place : ℕ) → Laid m → (put_value m value).answer ≡ Ok place → IsSome (zone_bytes (put_value m value).after place)

@@ -65,3 +65,6 @@ pub fn replace_value<M: Store>(store: &mut M, old: Place, value: &[u8]) -> Resul
         Err(error) => Err(error),
     }
 }
+
+#[cfg(test)]
+mod tests;
