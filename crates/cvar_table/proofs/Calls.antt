@@ -8,11 +8,12 @@ use Rattle.mem_model.specs.Told.{zone_answer}
 use Rattle.mem_model.specs.declared.answers.Place.{Place}
 use Rattle.mem_model.specs.declared.answers.ZoneError.{ZoneError}
 use Rattle.mem_model.specs.declared.answers.ZoneError.TheVariants as zone_error
+use Rattle.zone_values.specs.Held.{OthersStay}
 use Rattle.zone_values.specs.Values.{replace_value}
-use Rattle.cvar_table.specs.Cvars.{Cvar, Default, defaults, cvar_of, CvarSet, set_cvar, HoldsCvars}
+use Rattle.cvar_table.specs.Cvars.{Cvar, Default, defaults, cvar_of, CvarSet, set_cvar, places_of, HoldsCvars}
 use Rattle.cvar_table.specs.Told.{listed, zone_told}
 use Rattle.cvar_table.proofs.Listing.{cvar_found, cvar_missing, cvar_placed}
-use Rattle.cvar_table.proofs.CvarLaws.{set_cvar-found, set_cvar-refused, set_cvar-missing, HoldsCvars-set_cvar}
+use Rattle.cvar_table.proofs.CvarLaws.{set_cvar-found, set_cvar-refused, set_cvar-missing, HoldsCvars-set_cvar, OthersStay-set_cvar}
 
 -- the outcomes, where the default of the name stands at a position
 module _ (m n : Memory) (places : List Place) (cvars : List Cvar) (name value : List ℕ) (at : ℕ) (d : Place)
@@ -50,3 +51,13 @@ pub holds_undone : (m n : Memory) (cvars : List Cvar) (name value : List ℕ) (f
     IfSome (zone_told {A = Bool} (Err error)) (λ told. cvars ≡ (set_cvar m cvars name value).cvars) → HoldsCvars n cvars
 holds_undone m n cvars name value frugal (zone_error.Full asked) laid holds given is = holds_done m n cvars cvars name value (Err asked) laid holds given is
 holds_undone m n cvars name value frugal zone_error.OutOfMemory laid holds ran_out is = rw ran_out.after holds
+
+-- Blocks beside theirs stay.
+pub stay_done : (m n : Memory) (cvars after : List Cvar) (name value : List ℕ) (reply : Result Bool ℕ) → Laid m → HoldsCvars m cvars → Answers (set_cvar m cvars name value).given reply n → after ≡ (set_cvar m cvars name value).cvars →
+    OthersStay m n (places_of cvars) (places_of after)
+stay_done m n cvars after name value reply laid holds given is = rw (given.after, is) (OthersStay-set_cvar m cvars name value laid holds)
+
+pub stay_undone : (m n : Memory) (cvars : List Cvar) (name value : List ℕ) (frugal : Bool) (error : ZoneError) → Laid m → HoldsCvars m cvars → Gives (set_cvar m cvars name value).given frugal m (zone_told {A = Bool} (Err error)) n →
+    IfSome (zone_told {A = Bool} (Err error)) (λ told. cvars ≡ (set_cvar m cvars name value).cvars) → OthersStay m n (places_of cvars) (places_of cvars)
+stay_undone m n cvars name value frugal (zone_error.Full asked) laid holds given is = stay_done m n cvars cvars name value (Err asked) laid holds given is
+stay_undone m n cvars name value frugal zone_error.OutOfMemory laid holds ran_out is = λ place bytes none there. (none, rw ran_out.after there)

@@ -9,10 +9,10 @@ use Rattle.mem_model.specs.Laid.{Laid, IsText}
 use Rattle.mem_model.specs.Places.{zone_need}
 use Rattle.mem_model.specs.Zone.{zone_bytes}
 use Rattle.mem_model.specs.Apart.{NoneIs, AreUsed, AreApart}
-use Rattle.zone_values.specs.Held.{AreHeld}
+use Rattle.zone_values.specs.Held.{AreHeld, OthersStay}
 use Rattle.zone_values.specs.Values.{value_at, put_value, replace_value}
 use Rattle.zone_values.proofs.ValueLaws.{Laid-replace_value, zone_bytes-replace_value, value_at-replace_value, replace_value-refusal, size-replace_value, low-replace_value, high-replace_value, temp-replace_value}
-use Rattle.zone_values.proofs.HeldLaws.{value_at-kept, AreHeld-same, AreHeld-kept, AreHeld-replace_value}
+use Rattle.zone_values.proofs.HeldLaws.{value_at-kept, AreHeld-same, AreHeld-kept, AreHeld-replace_value, AreHeld-turned}
 use Rattle.cvar_table.specs.Cvars.{Cvar, cvar_of, cvar_value, with_place, CvarSet, set_cvar, set_found, set_by, places_of, HoldsCvars}
 use Rattle.mem_model.proofs.Untouched.{zone_bytes-same}
 use Rattle.cvar_table.proofs.Listing.{some-place}
@@ -91,6 +91,13 @@ AreHeld-set_cvar m cvars name value others laid held =
 
 pub HoldsCvars-set_cvar : (m : Memory) (cvars : List Cvar) (name value : List ℕ) → Laid m → HoldsCvars m cvars → HoldsCvars (set_cvar m cvars name value).given.after (set_cvar m cvars name value).cvars
 HoldsCvars-set_cvar m cvars name value laid holds = subst (λ ps. AreHeld (set_cvar m cvars name value).given.after ps) (append-nil _) (AreHeld-set_cvar m cvars name value [] laid (subst (λ ps. AreHeld m ps) (sym (append-nil _)) holds))
+
+-- Used blocks beside those of the cvars stay, and are none of the cvars' afterwards.
+pub OthersStay-set_cvar : (m : Memory) (cvars : List Cvar) (name value : List ℕ) → Laid m → HoldsCvars m cvars → OthersStay m (set_cvar m cvars name value).given.after (places_of cvars) (places_of (set_cvar m cvars name value).cvars)
+OthersStay-set_cvar m cvars name value laid holds = λ place bytes none there.
+    (let beside : AreHeld m (place ∷ places_of cvars) = record { used = (rw there refl, holds.used); apart = (none, holds.apart) } in
+    let after = AreHeld-set_cvar m cvars name value (place ∷ []) laid (AreHeld-turned m (place ∷ []) (places_of cvars) beside) in
+    ((AreHeld-turned _ (places_of (set_cvar m cvars name value).cvars) (place ∷ []) after).apart.0, set_cvar-others m cvars name value bytes place laid none there))
 
 -- A refusal tells what the block needs, and leaves the zone and the cvars.
 pub set_cvar-refusal : (m : Memory) (cvars : List Cvar) (name value : List ℕ) (told : ℕ) → (set_cvar m cvars name value).given.answer ≡ Err told →

@@ -99,7 +99,7 @@ impl Cvars {
 
     /// The value of the cvar of exactly this name, without the zero that ends it: `None` exactly where none has the name.
     pub fn get<'a, M: Store>(&self, store: &'a M, name: &[u8]) -> Option<&'a [u8]>
-        requires holds { HoldsCvars (M.state store.now) self.now }
+        requires { HoldsCvars (M.state store.now) self.now }
         ensures value { MatchOption result (cvar_value (M.state store.now) self.now name.now ≡ None)
             (λ value. cvar_value (M.state store.now) self.now name.now ≡ Some value.now) }
         ensures none { is_some result ≡ is_some (cvar_of self.now name.now) }
