@@ -14,7 +14,7 @@ use mem_model::{Place, Store, ZoneError};
 
 /// The value in a used block of the zone: its bytes up to the first zero.
 pub fn value_at<M: Store>(store: &M, place: Place) -> &[u8]
-    requires there { IsSome (zone_bytes (M.state store.now) place.0) }
+    requires { IsSome (zone_bytes (M.state store.now) place.0) }
     ensures value { value_at (M.state store.now) place.0 ≡ Some result.now }
     ensures text { IsText result.now }
 {
