@@ -39,8 +39,8 @@ fn zeros(alloc: Global, name: &[u8], length: usize) -> Result<MemFile, AllocErro
     })
 }
 
-// A folder of files. In a heap of 1024 kilobytes `big` just fits, and `bigger` doesn't.
-fn filled(rt: &impl Abort, alloc: Global, disk: &Disk<'_>) -> Result<Box<dyn Folder>, AllocError> {
+// A folder of files. In a heap of 1024 KB `big` just fits, and `bigger` doesn't.
+fn files(rt: &impl Abort, alloc: Global, disk: &Disk<'_>) -> Result<MemFolder, AllocError> {
     assert!(rt; disk.config.len() < 10_000);
     let mut files = Vec::new(alloc);
     files.push(file(alloc, b"a.cfg", disk.config)?)?;
@@ -48,8 +48,14 @@ fn filled(rt: &impl Abort, alloc: Global, disk: &Disk<'_>) -> Result<Box<dyn Fol
     files.push(zeros(alloc, b"maps/m0.bsp", 16)?)?;
     files.push(zeros(alloc, b"big", 999_391)?)?;
     files.push(zeros(alloc, b"bigger", 999_392)?)?;
-    let folder = MemFolder::create(files, Vec::from_slice(alloc, disk.fails)?);
-    Ok(Box::new(alloc, folder)?)
+    Ok(MemFolder::create(
+        files,
+        Vec::from_slice(alloc, disk.fails)?,
+    ))
+}
+
+fn filled(rt: &impl Abort, alloc: Global, disk: &Disk<'_>) -> Result<Box<dyn Folder>, AllocError> {
+    Ok(Box::new(alloc, files(rt, alloc, disk)?)?)
 }
 
 // A folder without files, whose first call fails.
@@ -189,24 +195,23 @@ fn commands_are_answered(rt: HostRuntime) -> Result<(), Fail> {
     Ok(())
 }
 
+// What a report says of the zone that was just started.
+const ZONE: &str = "zone 48 32 used\nzone 80 32 used\nzone 112 32 used\nzone 144 32 used\nzone 176 32 used\nzone 208 32 used\nzone 240 32 used\nzone 272 32 used\nzone 304 48864 free\nrover 304\n";
+
 #[test]
 fn blocks_are_asked_for_and_reported(rt: HostRuntime) -> Result<(), Fail> {
     let cases = [
         (
-            "video 100 v\nreport",
+            "file a.txt;report",
+            "file a.txt 5 at 49184\nhunk 1048576 low 49200 high 0 room 999376 temp 0\nlow 0 49168 zone\nlow 49168 32 a\n",
+        ),
+        (
+            "video 100 v\nREPORT x",
             "video v 100 at 1048464\nhunk 1048576 low 49168 high 128 room 999280 temp 0\nlow 0 49168 zone\nhigh 1048448 128 v\n",
         ),
         (
-            "reserve 999392 big;reserve 0 x",
-            "reserve big 999392 at 49184\nfailed on 16 bytes\n",
-        ),
-        (
-            "report;reserve 1000000 big;REPORT x",
-            "hunk 1048576 low 49168 high 0 room 999408 temp 0\nlow 0 49168 zone\nfailed on 1000016 bytes\nhunk 1048576 low 49168 high 0 room 999408 temp 0\nlow 0 49168 zone\n",
-        ),
-        (
-            "reserve;reserve x ../a;reserve 1234567890 a;reserve 1;reserve 001 /a;video a b;video 1 ..",
-            "bad number\nbad number\nbad number\nbad name\nbad name\nbad number\nbad name\n",
+            "reserve 1000000 big;report",
+            "failed on 1000016 bytes\nhunk 1048576 low 49168 high 0 room 999408 temp 0\nlow 0 49168 zone\n",
         ),
         (
             "video 100 a;video 0200 maps/b.lmp;file a.txt;report",
@@ -216,6 +221,26 @@ fn blocks_are_asked_for_and_reported(rt: HostRuntime) -> Result<(), Fail> {
             "video 100 a;video 1000000 b;report",
             "video a 100 at 1048464\nfailed on 1000016 bytes\nhunk 1048576 low 49168 high 0 room 999408 temp 0\nlow 0 49168 zone\n",
         ),
+    ];
+    for (text, put) in cases {
+        let mut want = String::from_str(rt.alloc(), put)?;
+        want.push_str(ZONE)?;
+        check_answers(&rt, rt.alloc(), b"", text.as_bytes(), &want)?;
+    }
+    Ok(())
+}
+
+#[test]
+fn blocks_are_refused_in_order(rt: HostRuntime) -> Result<(), Fail> {
+    let cases = [
+        (
+            "reserve 999392 big;reserve 0 x",
+            "reserve big 999392 at 49184\nfailed on 16 bytes\n",
+        ),
+        (
+            "reserve;reserve x ../a;reserve 1234567890 a;reserve 1;reserve 001 /a;video a b;video 1 ..",
+            "bad number\nbad number\nbad number\nbad name\nbad name\nbad number\nbad name\n",
+        ),
         (
             "level;reserve 100 x;Level y",
             "level 49168\nreserve x 100 at 49184\nlevel 49296\n",
@@ -223,6 +248,96 @@ fn blocks_are_asked_for_and_reported(rt: HostRuntime) -> Result<(), Fail> {
     ];
     for (text, put) in cases {
         check_answers(&rt, rt.alloc(), b"", text.as_bytes(), put)?;
+    }
+    Ok(())
+}
+
+#[test]
+fn names_stand_for_texts_and_values(rt: HostRuntime) -> Result<(), Fail> {
+    let cases = [
+        ("alias", "Current alias commands:\n"),
+        ("alias a a; a\necho on", "runaway\non \n"),
+        (
+            "alias hi echo x;ALIAS",
+            "Current alias commands:\nhi : echo x \n\n",
+        ),
+        (
+            "alias Hi echo 1;alias hi echo 2;HI;alias",
+            "2 \nCurrent alias commands:\nhi : echo 2 \n\nHi : echo 1 \n\n",
+        ),
+        (
+            "alias a echo 1;alias b echo 2;alias a \"echo 3;\" b;a;alias",
+            "3 \n2 \nCurrent alias commands:\nb : echo 2 \n\na : echo 3; b \n\n",
+        ),
+        (
+            "alias abcdefghijabcdefghijabcdefghij12 x;alias abcdefghijabcdefghijabcdefghij1 echo y;abcdefghijabcdefghijabcdefghij1",
+            "Alias name is too long\ny \n",
+        ),
+        ("alias quit echo x;quit", ""),
+        ("alias volume echo x;volume;VOLUME", "x \nx \n"),
+        (
+            "alias \"\";alias;\"\";echo y",
+            "Current alias commands:\n : \n\ny \n",
+        ),
+        (
+            "volume;VOLUME;volume 0.5 1;volume;volume \"\";volume",
+            "\"volume\" is \"0.7\"\nUnknown command \"VOLUME\"\n\"volume\" is \"0.5\"\n\"volume\" is \"\"\n",
+        ),
+        (
+            "developer;bgmvolume;sensitivity;viewsize;crosshair;gamma;fov",
+            "\"developer\" is \"0\"\n\"bgmvolume\" is \"1\"\n\"sensitivity\" is \"3\"\n\"viewsize\" is \"100\"\n\"crosshair\" is \"0\"\n\"gamma\" is \"1\"\n\"fov\" is \"90\"\n",
+        ),
+    ];
+    for (text, put) in cases {
+        check_answers(&rt, rt.alloc(), b"", text.as_bytes(), put)?;
+    }
+    Ok(())
+}
+
+// A command that sets an alias to 36 words of 27 bytes.
+fn add_long_alias(script: &mut Vec<u8>, name: &str) -> Result<(), AllocError> {
+    script.extend_from_slice(b"alias ")?;
+    script.extend_from_slice(name.as_bytes())?;
+    for _ in 0..36 {
+        script.extend_from_slice(b" bbbbbbbbbbbbbbbbbbbbbbbbbbb")?;
+    }
+    script.extend_from_slice(b"\n")?;
+    Ok(())
+}
+
+#[test]
+fn the_zone_holds_so_many_values(rt: HostRuntime) -> Result<(), Fail> {
+    let alloc = rt.alloc();
+    let words = ["-zone", "4", "-heapsize", "1024", "d"];
+    let mut text = Vec::new(alloc);
+    for name in ["a", "b", "c", "d"] {
+        add_long_alias(&mut text, name)?;
+    }
+    text.extend_from_slice(b"d\nvolume 0.5;volume")?;
+    let mut script = source(alloc, &text)?;
+    let mut out = sink(alloc)?;
+    let status = run(&rt, alloc, &words, &PLAIN, &mut script, &mut out)?;
+    let put = "zone full: 1040 bytes\nUnknown command \"d\"\n\"volume\" is \"0.5\"\n";
+    check_end(&rt, &status, &out, 0, "", put);
+    Ok(())
+}
+
+#[test]
+fn an_alias_goes_in_front_where_it_fits(rt: HostRuntime) -> Result<(), Fail> {
+    let alloc = rt.alloc();
+    let long = "line too long\n";
+    let over = "overflow\nline too long\n";
+    for (count, want) in [(7181, long), (7182, over)] {
+        let mut text = Vec::new(alloc);
+        add_long_alias(&mut text, "a")?;
+        text.extend_from_slice(b"a;")?;
+        text.extend_from_slice(&vec![in alloc; b' '; count]?)?;
+        let mut put = String::new(alloc);
+        if want == long {
+            put.push_str("Unknown command \"bbbbbbbbbbbbbbbbbbbbbbbbbbb\"\n")?;
+        }
+        put.push_str(want)?;
+        check_answers(&rt, alloc, b"", &text, &put)?;
     }
     Ok(())
 }
@@ -405,37 +520,28 @@ fn a_failed_put_is_told(rt: HostRuntime) -> Result<(), Fail> {
 #[test]
 fn faulty_words_leave_all_untouched(rt: HostRuntime) -> Result<(), Fail> {
     let alloc = rt.alloc();
-    let cases: [(&[&str], u32); 18] = [
-        (&[], 0),
-        (&[""], 0),
-        (&["-x"], 0),
-        (&["-heap", "1024", "d"], 0),
-        (&["-heapsize"], 1),
-        (&["-heapsize", "12", "d"], 1),
-        (&["-heapsize", "1023", "d"], 1),
-        (&["-heapsize", "65537", "d"], 1),
-        (&["-heapsize", "+1024", "d"], 1),
-        (&["-heapsize", "d", "-d"], 1),
-        (&["d", "e"], 1),
-        (&["d", "-heapsize", "1024"], 1),
-        (&["-heapsize", "1024"], 2),
-        (&["-heapsize", "1024", ""], 2),
-        (&["-heapsize", "1024", "-d"], 2),
-        (&["-heapsize", "1024", "-d", "e"], 2),
-        (&["-heapsize", "1024", "-heapsize", "2048", "d"], 2),
-        (&["-heapsize", "1024", "d", "e"], 3),
-    ];
     let usage = "usage: quake_cli [-heapsize KB] [-zone KB] [-speed HZ] folder ...";
-    for (words, number) in cases {
+    let small = "heap too small";
+    let cases: [(&[&str], u8, &str, Option<u32>); 8] = [
+        (&[], 1, usage, Some(0)),
+        (&["-speed", "11025", "d"], 1, usage, Some(0)),
+        (&["-heapsize", "12", "d"], 1, usage, Some(1)),
+        (&["d", "e"], 1, usage, Some(1)),
+        (&["-heapsize", "1024"], 1, usage, Some(2)),
+        (&["-zone", "48", "-heapsize", "d"], 1, usage, Some(3)),
+        (&["-heapsize", "1024", "-zone", "1024", "d"], 3, small, None),
+        (&["-zone", "65536", "d"], 3, small, None),
+    ];
+    for (words, code, line, number) in cases {
         let bytes = Vec::from_slice(alloc, b"echo a\n")?;
         let mut script = MemSource::create(bytes, 99, Vec::from_slice(alloc, &[0])?);
         let mut out = MemSink::create(alloc, 99, Vec::from_slice(alloc, &[0])?)?;
         let status = run(&rt, alloc, words, &PLAIN, &mut script, &mut out)?;
-        check_end(&rt, &status, &out, 1, usage, "");
-        assert!(rt;
-            matches!(status, Status::Usage { word } if word == number),
-            "{words:?}"
-        );
+        check_end(&rt, &status, &out, code, line, "");
+        match status {
+            Status::Usage { word } => assert_eq!(rt; Some(word), number, "{words:?}"),
+            _ => assert_eq!(rt; None, number, "{words:?}"),
+        }
         // The first read and the first put are still to come.
         assert_eq!(rt; bytes_read(&mut script), None, "{words:?}");
         assert_eq!(rt; bytes_read(&mut script), Some(7), "{words:?}");
@@ -449,9 +555,13 @@ fn the_heap_has_its_size(rt: HostRuntime) -> Result<(), Fail> {
     let alloc = rt.alloc();
     let text = b"file bigger;file big";
     let both = "file bigger 999392 at 49184\nfile big 999391 at 1048608\n";
-    let cases: [(&[&str], &str); 3] = [
+    let cases: [(&[&str], &str); 4] = [
         (&["d"], both),
         (&["-heapsize", "65536", "d"], both),
+        (
+            &["-zone", "1023", "-heapsize", "1024", "d"],
+            "failed on 999424 bytes\nfailed on 999408 bytes\n",
+        ),
         (
             &["-heapsize", "1024", "d"],
             "failed on 999424 bytes\nfile big 999391 at 49184\n",
@@ -508,7 +618,11 @@ fn want_of_memory_is_told(rt: HostRuntime) -> Result<(), Fail> {
 }
 
 // A session over a new store and a folder whose call of this number fails.
-fn session(rt: &impl Abort, alloc: Global, fails: u64) -> Result<Session<PlainStore>, Fail>
+fn session(
+    rt: &impl Abort,
+    alloc: Global,
+    fails: u64,
+) -> Result<Session<PlainStore, MemFolder>, Fail>
     ensures { IfOk result (λ session. session.ended ≡ false) }
 {
     let store = PlainStore::create(alloc, 1_048_576, 49_152, 768)?;
@@ -517,7 +631,7 @@ fn session(rt: &impl Abort, alloc: Global, fails: u64) -> Result<Session<PlainSt
         config: b"echo hi",
         fails: &[fails],
     };
-    paths.mount(alloc, filled(rt, alloc, &disk)?)?;
+    paths.mount(alloc, files(rt, alloc, &disk)?)?;
     Ok(Session::start(store, paths)?)
 }
 
