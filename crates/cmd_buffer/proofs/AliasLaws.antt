@@ -16,7 +16,7 @@ chain_still m n first (a ∷ older) keeps chain =
     let is = chain.1.1 in
     (chain.0, (next, record { bytes = is.bytes; there = keeps.0 is.bytes is.there; long = is.long; follows = is.follows; name = is.name; value = is.value }, chain_still m n next older keeps.1.1 chain.1.2))
 
-alias_is : (m : Memory) (a : Alias) (next : Option ℕ) (is : IsRecord m a next) → alias_at a.record_place is.bytes ≡ a
+pub alias_is : (m : Memory) (a : Alias) (next : Option ℕ) (is : IsRecord m a next) → alias_at a.record_place is.bytes ≡ a
 alias_is m a next is =
     let with_name : (name : List ℕ) → Alias = λ name. record { record_place = a.record_place; name = name; value_place = value_in is.bytes } in
     let with_value : (value : ℕ) → Alias = λ value. record { record_place = a.record_place; name = a.name; value_place = value } in
@@ -48,11 +48,13 @@ half_many (a ∷ older) = omega (arith, half_many older)
 pub aliases_are : (m : Memory) (newest : Option ℕ) (aliases : List Alias) → IsChain m newest aliases → AreHeld m (alias_places aliases) → HoldsAliases m newest × (aliases_of m newest ≡ aliases)
 unfolding aliases_of
 aliases_are m newest aliases chain held =
-    let are : followed (length m.zone.blocks) m newest ≡ aliases = followed_all (length m.zone.blocks) m newest aliases chain (omega (arith, half_many aliases, places-few m (alias_places aliases) held.apart held.used)) in
-    (record {
-      chain = subst (IsChain m newest) (sym are) chain;
-      held = subst (λ (all : List Alias). AreHeld m (alias_places all)) (sym are) held;
-    }, are)
+    let are : followed (length m.zone.blocks) m newest ≡ aliases = followed_all (length m.zone.blocks) m newest aliases chain (omega (arith, half_many aliases, places-few m (alias_places aliases) held.apart held.used)) in (
+      record {
+        chain = subst (IsChain m newest) (sym are) chain;
+        held = subst (λ (all : List Alias). AreHeld m (alias_places all)) (sym are) held;
+      },
+      are,
+    )
 
 -- The aliases stay over a step that keeps the bytes of their blocks.
 pub aliases_still : (m n : Memory) (newest : Option ℕ) → KeepsAt m n (alias_places (aliases_of m newest)) → HoldsAliases m newest → HoldsAliases n newest × (aliases_of n newest ≡ aliases_of m newest)

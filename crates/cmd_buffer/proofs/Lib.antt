@@ -1,4 +1,9 @@
 pub mod AliasLaws
+pub mod AliasNames
+pub mod AliasReads
+pub mod AliasRows
+pub mod AliasWriting
 pub mod Counting
 pub mod Cuts
 mod Examples
+pub mod WordLaws

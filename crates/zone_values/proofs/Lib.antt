@@ -1,4 +1,4 @@
-mod Writing
+pub mod Writing
 mod Putting
 pub mod ValueLaws
 pub mod HeldLaws
