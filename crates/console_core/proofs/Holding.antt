@@ -2,7 +2,7 @@
 use Rattle.std.proofs.Common.{◌≡◌, ◌≢◌, ℕ, List, [], ◌∷◌, ◌++◌, Bool, Some, None, Option, Result, Ok, Err, refl, sym, ap, ◌∙◌, subst}
 use Rattle.std.specs.List.{AllByRecursion}
 use Rattle.std.proofs.lemmas.List.Elements.{All-nil}
-use Rattle.mem_model.specs.Memory.{Memory}
+use Rattle.mem_model.specs.Memory.{Memory, new_memory}
 use Rattle.mem_model.specs.Laid.{Laid, IsText}
 use Rattle.mem_model.specs.Zone.{zone_bytes}
 use Rattle.mem_model.specs.Apart.{NoneIs, AreUsed}
@@ -13,10 +13,11 @@ use Rattle.mem_model.specs.Operations.{low_alloc, high_alloc, high_mark, high_fr
 use Rattle.mem_model.proofs.Untouched.{zone_bytes-same, zone-low_alloc, zone-high_alloc, zone-high_mark, zone-high_free, zone-without_temp}
 use Rattle.zone_values.specs.Held.{AreHeld, NoneAmong, OthersStay, KeepsAt}
 use Rattle.zone_values.proofs.HeldLaws.{some_bytes, some-kept, AreHeld-same, among_turned}
-use Rattle.cvar_table.specs.Cvars.{Cvar, HoldsCvars, places_of as cvar_places}
+use Rattle.cvar_table.specs.Cvars.{Cvar, HoldsCvars, created, defaults, places_of as cvar_places}
+use Rattle.cvar_table.proofs.CreatedLaws.{created_new}
 use Rattle.cmd_buffer.specs.Aliases.{Alias, HoldsAliases, aliases_of, alias_places}
 use Rattle.cmd_buffer.proofs.AliasLaws.{aliases_still, holds_none, aliases_none}
-use Rattle.console_core.specs.States.{State}
+use Rattle.console_core.specs.States.{State, IsNew}
 use Rattle.console_core.specs.Holding.{Holds}
 
 -- Over a step that leaves what is kept elsewhere, what is held there is held still, and apart from what is kept now.
@@ -114,3 +115,10 @@ holds_first m level cvars laid holds = record {
   aliases = holds_none m;
   apart = subst (λ (all : List Alias). NoneAmong (alias_places all) (cvar_places cvars)) (sym (aliases_none m)) tt;
 }
+
+-- the zone of a new memory has room for the defaults
+pub new_has_room : (m : Memory) → IsNew m → Laid m → (asked : ℕ) → (created m defaults).answer ≡ Err asked → ⊥
+new_has_room m new laid asked refused =
+    let whole = created_new new.size new.zone 768 new.event_room (subst Laid new.is laid) new.large in
+    let given : (created (new_memory new.size new.zone 768 new.event_room) defaults).answer ≡ Err asked = subst (λ (n : Memory). (created n defaults).answer ≡ Err asked) new.is refused in
+    absurd (let both : Ok whole.0 ≡ Err asked = sym whole.1 ∙ given in cc)

@@ -23,12 +23,6 @@ aliases-init g c =
       faults = omega arith;
     }
 
-pub row-requires-clause-stub : goal.row-requires-clause-stub
-row-requires-clause-stub g c = ?
-
-pub older-left-requires-clause-stub : goal.older-left-requires-clause-stub
-older-left-requires-clause-stub g c = ?
-
 pub returns-in-Err-add_all-clause-replies : goal.returns-in-Err-add_all-clause-replies
 returns-in-Err-add_all-clause-replies g c =
     let m = g.M.Store.state c.args.store.now in

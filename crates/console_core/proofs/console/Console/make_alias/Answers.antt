@@ -8,23 +8,20 @@ use Rattle.console_core.proofs.Holding.{holds_aliases}
 use Rattle.console_core.proofs.Valuing.{follow_alias, alias_of_words, word_text, value_text}
 use Rattle.console_core.proofs.console.Console.make_alias.Goals as goal
 
-pub set-requires-clause-stub : goal.set-requires-clause-stub
-set-requires-clause-stub g c = ?
-
 pub set-requires-clause-texts : goal.set-requires-clause-texts
 set-requires-clause-texts g c = (rw c.word.ensures (word_text c.args.words.now 1 c.requires.short.texts), rw (c.as_slice.ensures.value, c.value_of-value.ensures) (value_text c.args.words.now c.requires.short.texts))
 
 pub returns-in-Ok-clause-holds : goal.returns-in-Ok-clause-holds
-returns-in-Ok-clause-holds g c = holds_aliases (state_of g.M.Store.state c.args.self.now) _ _ c.requires.holds c.set.ensures.laid c.set.ensures.holds c.set.ensures.others
+returns-in-Ok-clause-holds g c = holds_aliases (state_of g.M.Store.state c.args.self.now) _ _ c.requires.holds (c.set.ensures.laid c.requires.holds.laid) c.set.ensures.holds c.set.ensures.others
 
 pub returns-in-Err-LongName-clause-holds : goal.returns-in-Err-LongName-clause-holds
-returns-in-Err-LongName-clause-holds g c = holds_aliases (state_of g.M.Store.state c.args.self.now) _ _ c.requires.holds c.set.ensures.laid c.set.ensures.holds c.set.ensures.others
+returns-in-Err-LongName-clause-holds g c = holds_aliases (state_of g.M.Store.state c.args.self.now) _ _ c.requires.holds (c.set.ensures.laid c.requires.holds.laid) c.set.ensures.holds c.set.ensures.others
 
 pub returns-in-Err-Zone-Full-clause-holds : goal.returns-in-Err-Zone-Full-clause-holds
-returns-in-Err-Zone-Full-clause-holds g c = holds_aliases (state_of g.M.Store.state c.args.self.now) _ _ c.requires.holds c.set.ensures.laid c.set.ensures.holds c.set.ensures.others
+returns-in-Err-Zone-Full-clause-holds g c = holds_aliases (state_of g.M.Store.state c.args.self.now) _ _ c.requires.holds (c.set.ensures.laid c.requires.holds.laid) c.set.ensures.holds c.set.ensures.others
 
 pub returns-in-Err-Zone-OutOfMemory-clause-holds : goal.returns-in-Err-Zone-OutOfMemory-clause-holds
-returns-in-Err-Zone-OutOfMemory-clause-holds g c = holds_aliases (state_of g.M.Store.state c.args.self.now) _ _ c.requires.holds c.set.ensures.laid c.set.ensures.holds c.set.ensures.others
+returns-in-Err-Zone-OutOfMemory-clause-holds g c = holds_aliases (state_of g.M.Store.state c.args.self.now) _ _ c.requires.holds (c.set.ensures.laid c.requires.holds.laid) c.set.ensures.holds c.set.ensures.others
 
 pub returns-in-Err-LongName-clause-told : goal.returns-in-Err-LongName-clause-told
 returns-in-Err-LongName-clause-told g c =

@@ -6,9 +6,6 @@ use Rattle.cvar_table.specs.Cvars.{cvar_value}
 use Rattle.console_core.proofs.Following.{of_files, same_did}
 use Rattle.console_core.proofs.console.Console.run_cvar.Goals as goal
 
-pub get-requires-clause-stub : goal.get-requires-clause-stub
-get-requires-clause-stub g c = ?
-
 pub returns-in-None-clause-told : goal.returns-in-None-clause-told
 returns-in-None-clause-told g c =
     let s = state_of g.M.Store.state c.args.self.now in

@@ -8,9 +8,6 @@ use Rattle.console_core.proofs.Holding.{holds_buffer}
 use Rattle.console_core.proofs.Valuing.{follow_expansion}
 use Rattle.console_core.proofs.console.Console.run_name.Goals as goal
 
-pub find-requires-clause-stub : goal.find-requires-clause-stub
-find-requires-clause-stub g c = ?
-
 pub returns-in-Some-clause-told : goal.returns-in-Some-clause-told
 returns-in-Some-clause-told g c =
     let s = state_of g.M.Store.state c.args.self.now in

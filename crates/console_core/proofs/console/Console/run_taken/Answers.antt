@@ -11,9 +11,6 @@ use Rattle.console_core.specs.declared.ends.Next.TheVariants.{Goes}
 use Rattle.console_core.proofs.Following.{always, same_did, follow}
 use Rattle.console_core.proofs.console.Console.run_taken.Goals as goal
 
-pub tokenize-requires : goal.tokenize-requires
-tokenize-requires g c = ?
-
 pub returns-in-TooLong-clause-told : goal.returns-in-TooLong-clause-told
 returns-in-TooLong-clause-told g c =
     let s = state_of g.M.Store.state c.args.self.now in

@@ -8,9 +8,6 @@ use Rattle.console_core.proofs.Holding.{holds_cvars}
 use Rattle.console_core.proofs.Valuing.{follow_cvar}
 use Rattle.console_core.proofs.console.Console.set_cvar.Goals as goal
 
-pub set-requires-clause-stub : goal.set-requires-clause-stub
-set-requires-clause-stub g c = ?
-
 pub returns-in-Ok-clause-holds : goal.returns-in-Ok-clause-holds
 returns-in-Ok-clause-holds g c = holds_cvars (state_of g.M.Store.state c.args.self.now) _ _ c.requires.holds (c.set.ensures.laid c.requires.holds.laid) c.set.ensures.holds c.set.ensures.others
 

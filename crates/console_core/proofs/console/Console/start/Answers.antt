@@ -1,11 +1,8 @@
-use Rattle.console_core.proofs.Holding.{holds_first}
+use Rattle.console_core.proofs.Holding.{holds_first, new_has_room}
 use Rattle.console_core.proofs.console.Console.start.Goals as goal
 
-pub create-requires : goal.create-requires
-create-requires g c = ?
-
 pub unreachable-requires : goal.unreachable-requires
-unreachable-requires g c = ?
+unreachable-requires g c = new_has_room (g.M.Store.state c.args.store) c.requires.new c.low_mark-level.ensures.laid c.in-Err-Full.field-0-0 (rw c.in-Err-Full.field-0-is at c.in-Err-Full.ensures.gives.1).answer
 
 pub returns-in-Ok-clause-holds : goal.returns-in-Ok-clause-holds
 returns-in-Ok-clause-holds g c =
