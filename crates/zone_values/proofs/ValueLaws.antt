@@ -127,7 +127,8 @@ zone_bytes-replace_new m value bytes old place laid was h =
     let new = zone_bytes-put_new m value place laid put in
     (new.0, ap (λ (n : Memory). zone_bytes n place) (after_replace m old value place h) ∙ zone_bytes-z_free _ old place _ (Laid-put_value m value laid) (λ same. put_apart m value bytes place old laid put was (sym same)) new.1)
 
-some_bytes : (o : Option (List ℕ)) → IsSome o → (bytes : List ℕ) × (o ≡ Some bytes)
+-- the bytes that are there
+pub some_bytes : (o : Option (List ℕ)) → IsSome o → (bytes : List ℕ) × (o ≡ Some bytes)
 some_bytes None h = absurd (cc)
 some_bytes (Some bytes) h = (bytes, refl)
 

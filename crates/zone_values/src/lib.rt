@@ -62,7 +62,7 @@ pub fn replace_value<M: Store>(store: &mut M, old: Place, value: &[u8]) -> Resul
             let _ = store.z_free(old);
             Ok(place)
         }
-        Err(error) => Err(error),
+        Err(refusal) => Err(refusal),
     }
 }
 
