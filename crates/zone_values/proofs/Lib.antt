@@ -1,3 +1,4 @@
+mod Examples
 mod Writing
 mod Putting
 pub mod ValueLaws
