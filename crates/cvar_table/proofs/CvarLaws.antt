@@ -1,22 +1,21 @@
 -- Laws of the cvars, over the definitions alone: what the console needs.
-use Rattle.std.proofs.Common.{◌≡◌, ◌≢◌, ℕ, ◌+◌, List, [], ◌∷◌, ◌++◌, Option, Some, None, Result, Ok, Err, Bool, true, false, length, map, refl, sym, ap, subst, ◌∙◌, append_assoc}
+use Rattle.std.proofs.Common.{◌≡◌, ◌≢◌, ℕ, ◌+◌, List, [], ◌∷◌, ◌++◌, Option, Some, None, Result, Ok, Err, true, false, length, refl, sym, ap, subst, ◌∙◌, append_assoc}
 use Rattle.std.specs.Prelude.{is_some, IsSome}
 use Rattle.std.specs.Option.{option_and_then, option_map}
 use Rattle.std.proofs.lemmas.List.{append-nil}
 use Rattle.mem_model.specs.Memory.{Memory}
-use Rattle.mem_model.specs.Answer.{Answered, Answers, Gives}
 use Rattle.mem_model.specs.Laid.{Laid, IsText}
 use Rattle.mem_model.specs.Places.{zone_need}
 use Rattle.mem_model.specs.Zone.{zone_bytes}
-use Rattle.mem_model.specs.Apart.{NoneIs, AreUsed, AreApart}
+use Rattle.mem_model.specs.Apart.{NoneIs}
 use Rattle.zone_values.specs.Held.{AreHeld}
-use Rattle.zone_values.specs.Values.{value_at, put_value, replace_value}
+use Rattle.zone_values.specs.Values.{value_at, replace_value}
 use Rattle.zone_values.proofs.ValueLaws.{Laid-replace_value, zone_bytes-replace_value, value_at-replace_value, replace_value-refusal, size-replace_value, low-replace_value, high-replace_value, temp-replace_value}
 use Rattle.zone_values.proofs.HeldLaws.{value_at-kept, AreHeld-same, AreHeld-kept, AreHeld-beside, AreHeld-replace_value}
 use Rattle.cvar_table.specs.Cvars.{Cvar, cvar_of, cvar_value, with_place, CvarSet, set_cvar, set_found, set_by, places_of, HoldsCvars}
 use Rattle.mem_model.proofs.Untouched.{zone_bytes-same}
 use Rattle.cvar_table.proofs.Listing.{some-place}
-use Rattle.cvar_table.proofs.Setting.{IsPlaced, placed_at, cvar_of-with_place, cvar_of-elsewhere, is_some-with_place, none_of_cvar, cvars_apart}
+use Rattle.cvar_table.proofs.Setting.{placed_at, cvar_of-with_place, cvar_of-elsewhere, is_some-with_place, none_of_cvar, cvars_apart}
 
 -- Cvars stay held where each used block keeps its bytes,
 pub HoldsCvars-kept : (m n : Memory) (cvars : List Cvar) → ((place : ℕ) (bytes : List ℕ) → zone_bytes m place ≡ Some bytes → zone_bytes n place ≡ Some bytes) → HoldsCvars m cvars → HoldsCvars n cvars

@@ -1,5 +1,5 @@
 -- Worked examples: each equation holds by computing.
-use Rattle.std.proofs.Common.{◌≡◌, ℕ, List, [], ◌∷◌, Some, None, Result, Ok, Err, Bool, true, false, map, refl}
+use Rattle.std.proofs.Common.{◌≡◌, ℕ, List, [], ◌∷◌, Some, None, Result, Ok, Err, true, refl}
 use Rattle.std.specs.Prelude.{codes}
 use Rattle.mem_model.specs.Memory.{Memory, new_memory}
 use Rattle.mem_model.specs.Hunk.{over}

@@ -1,5 +1,5 @@
 -- Worked examples: each equation holds by computing.
-use Rattle.std.proofs.Common.{◌≡◌, ℕ, List, [], ◌∷◌, Some, Ok, Err, Bool, true, false, map, refl}
+use Rattle.std.proofs.Common.{◌≡◌, [], ◌∷◌, Some, Ok, Err, true, false, map, refl}
 use Rattle.std.specs.Prelude.{codes}
 use Rattle.mem_model.specs.Blocks.{ZoneBlock}
 use Rattle.mem_model.specs.Memory.{Memory, new_memory}

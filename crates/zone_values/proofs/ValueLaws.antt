@@ -1,12 +1,11 @@
 -- Laws of values in the zone, over the definitions alone: what those who keep values need.
-use Rattle.std.proofs.Common.{◌≡◌, ◌≢◌, ℕ, ◌+◌, ◌≤◌, List, [], ◌∷◌, ◌++◌, Option, Some, None, Result, Ok, Err, length, drop, replicate, refl, sym, ap, ◌∙◌, arith, append_assoc, length-append}
+use Rattle.std.proofs.Common.{◌≡◌, ◌≢◌, ℕ, ◌+◌, List, [], ◌∷◌, ◌++◌, Option, Some, None, Result, Ok, Err, length, drop, replicate, refl, sym, ap, ◌∙◌, arith, append_assoc, length-append}
 use Rattle.std.specs.Prelude.{IsSome}
 use Rattle.std.specs.Option.{option_map}
 use Rattle.std.proofs.lemmas.List.{length-replicate}
 use Rattle.base_fields.specs.Texts.{until_zero}
 use Rattle.base_fields.proofs.TextLaws.{until_zero_of_ended}
 use Rattle.mem_model.specs.Memory.{Memory}
-use Rattle.mem_model.specs.Answer.{Answered}
 use Rattle.mem_model.specs.Laid.{Laid, IsText}
 use Rattle.mem_model.specs.Places.{zone_need}
 use Rattle.mem_model.specs.Hunk.{over}

@@ -1,4 +1,3 @@
-use Rattle.std.proofs.Common.{Ok, Err, ap, ◌∙◌, sym, refl}
 use Rattle.zone_values.proofs.Putting.{replaced_given, replaced_without}
 use Rattle.zone_values.proofs.replace_value.Goals as goal
 
