@@ -12,7 +12,8 @@ use Rattle.mem_model.specs.Hunk.{without_temp}
 use Rattle.mem_model.specs.Operations.{low_alloc, high_alloc, high_mark, high_free}
 use Rattle.mem_model.proofs.Untouched.{zone_bytes-same, zone-low_alloc, zone-high_alloc, zone-high_mark, zone-high_free, zone-without_temp}
 use Rattle.zone_values.specs.Held.{AreHeld, NoneAmong, OthersStay, KeepsAt}
-use Rattle.zone_values.proofs.HeldLaws.{some_bytes, some-kept, AreHeld-same, among_turned}
+use Rattle.zone_values.proofs.HeldLaws.{some-kept, AreHeld-same, among_turned}
+use Rattle.zone_values.proofs.ValueLaws.{some_bytes}
 use Rattle.cvar_table.specs.Cvars.{Cvar, HoldsCvars, created, defaults, places_of as cvar_places}
 use Rattle.cvar_table.proofs.CreatedLaws.{created_new}
 use Rattle.cmd_buffer.specs.Aliases.{Alias, HoldsAliases, aliases_of, alias_places}

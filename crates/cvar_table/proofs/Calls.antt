@@ -1,16 +1,16 @@
 -- What setting a cvar gives, from what its parts gave.
-use Rattle.std.proofs.Common.{◌≡◌, ℕ, List, Option, Some, None, Result, Ok, Err, Bool, true, false, length, get_or, refl, sym, ap, subst, ◌∙◌, position, bytes_eq}
+use Rattle.std.proofs.Common.{◌≡◌, ℕ, List, Some, None, Result, Ok, Err, Bool, true, false, length, get_or, sym, ap, ◌∙◌, position, bytes_eq}
 use Rattle.std.specs.Prelude.{slice_set, IfSome}
 use Rattle.mem_model.specs.Memory.{Memory}
 use Rattle.mem_model.specs.Laid.{Laid}
-use Rattle.mem_model.specs.Answer.{Answered, Answers, Gives}
+use Rattle.mem_model.specs.Answer.{Answers, Gives}
 use Rattle.mem_model.specs.Told.{zone_answer}
 use Rattle.mem_model.specs.declared.answers.Place.{Place}
 use Rattle.mem_model.specs.declared.answers.ZoneError.{ZoneError}
 use Rattle.mem_model.specs.declared.answers.ZoneError.TheVariants as zone_error
 use Rattle.zone_values.specs.Held.{OthersStay}
 use Rattle.zone_values.specs.Values.{replace_value}
-use Rattle.cvar_table.specs.Cvars.{Cvar, Default, defaults, cvar_of, CvarSet, set_cvar, places_of, HoldsCvars}
+use Rattle.cvar_table.specs.Cvars.{Cvar, Default, defaults, CvarSet, set_cvar, places_of, HoldsCvars}
 use Rattle.cvar_table.specs.Told.{listed, zone_told}
 use Rattle.cvar_table.proofs.Listing.{cvar_found, cvar_missing, cvar_placed}
 use Rattle.cvar_table.proofs.CvarLaws.{set_cvar-found, set_cvar-refused, set_cvar-missing, HoldsCvars-set_cvar, OthersStay-set_cvar}

@@ -1,6 +1,6 @@
 -- Laws of the creation of cvars, over the definitions alone: what the console needs.
-use Rattle.std.proofs.Common.{◌≡◌, ℕ, ◌+◌, ◌-◌, ◌*◌, ◌<◌, ◌≤◌, ◌≢◌, inl, inr, Bool, true, false, not, cond, eqb, length, arith, bytes_eq, find, List, [], ◌∷◌, ◌++◌, Option, Some, None, Result, Ok, Err, map, refl, sym, ap, subst, ◌∙◌}
-use Rattle.std.specs.Prelude.{IsSome, codes}
+use Rattle.std.proofs.Common.{◌≡◌, ℕ, ◌+◌, ◌-◌, ◌*◌, ◌<◌, ◌≤◌, ◌≢◌, inl, inr, Bool, true, false, not, cond, eqb, length, arith, bytes_eq, find, List, [], ◌∷◌, ◌++◌, Some, Result, Ok, Err, map, refl, sym, ap, subst, ◌∙◌}
+use Rattle.std.specs.Prelude.{codes}
 use Rattle.std.specs.Option.{option_map, option_and_then}
 use Rattle.std.specs.List.{AllByRecursion, list_all}
 use Rattle.std.proofs.lemmas.List.{append-nil}
@@ -11,7 +11,6 @@ use Rattle.mem_model.specs.Answer.{Answered}
 use Rattle.mem_model.specs.Laid.{Laid, IsText}
 use Rattle.mem_model.specs.Places.{zone_need}
 use Rattle.mem_model.specs.Zone.{zone_bytes}
-use Rattle.mem_model.specs.Apart.{NoneIs, AreUsed, AreApart}
 use Rattle.zone_values.specs.Held.{AreHeld}
 use Rattle.zone_values.specs.Values.{value_at, put_value}
 use Rattle.zone_values.proofs.ValueLaws.{Laid-put_value, zone_bytes-put_value, value_at-put_value, some-put_new, size-put_value, low-put_value, high-put_value, temp-put_value}
@@ -165,6 +164,14 @@ defaults_texts : AllByRecursion (λ (d : Default). IsText d.value) defaults
 defaults_texts =
     (text_of (codes "0") refl, (text_of (codes "0.7") refl, (text_of (codes "1") refl, (text_of (codes "3") refl, (text_of (codes "100") refl, (text_of (codes "0") refl, (text_of (codes "1") refl, (text_of (codes "90") refl, tt))))))))
 
+-- the first cvar, and the others
+first_created : (name : List ℕ) (n : Memory) (ds : List Default) (place : ℕ) (others : List Cvar) (answer : Result ℕ ℕ) → answer ≡ Ok place → (created n ds).answer ≡ Ok others →
+    (created_by name answer n (λ k. created k ds)).answer ≡ Ok (record { name = name; place = place } ∷ others)
+first_created name n ds place others (Ok at) given rest =
+    let same : at ≡ place = cc in
+    ap (created_first (record { name = name; place = at })) rest ∙ ap (λ p. Ok (record { name = name; place = p } ∷ others)) same
+first_created name n ds place others (Err asked) given rest = absurd (cc)
+
 -- what room for each value and 64 bytes more gives
 created_within : (m : Memory) (ds : List Default) (room : ℕ) → Laid m → AllByRecursion (λ (d : Default). length d.value ≤ 3) ds → free_sizes m.zone.blocks ≡ room ∷ [] → 32 * length ds + 64 < room →
     (cvars : List Cvar) × ((created m ds).answer ≡ Ok cvars)
@@ -173,11 +180,9 @@ created_within m [] room laid short free fits = ([], refl)
 created_within m (d ∷ ds) room laid short free fits =
     let need : zone_need (length d.value + 1) ≡ 32 = omega (arith, short.0) in
     let put = put_value-one_free m d.value room free (omega (arith, need)) in
-    let n = (put_value m d.value).after in
-    let rest = created_within n ds (room - zone_need (length d.value + 1)) (Laid-put_value m d.value laid) short.1 (free_sizes-put_value m d.value room laid free (omega (arith, need))) (omega (arith, need)) in (
-      record { name = d.name; place = put.0 } ∷ rest.0,
-      ap (λ (answer : Result ℕ ℕ). (created_by d.name answer n (λ k. created k ds)).answer) put.1 ∙ ap (created_first (record { name = d.name; place = put.0 })) rest.1,
-    )
+    let left = free_sizes-put_value m d.value room laid free (omega (arith, need)) in
+    let rest = created_within (put_value m d.value).after ds (room - zone_need (length d.value + 1)) (Laid-put_value m d.value laid) short.1 left (omega (arith, need)) in
+    (record { name = d.name; place = put.0 } ∷ rest.0, first_created d.name (put_value m d.value).after ds put.0 rest.0 (put_value m d.value).answer put.1 rest.1)
 
 -- Over a zone with one free block of more than 320 bytes, as that of a new store has, no default is refused.
 pub created_whole : (m : Memory) (room : ℕ) → Laid m → free_sizes m.zone.blocks ≡ room ∷ [] → 320 < room → (cvars : List Cvar) × ((created m defaults).answer ≡ Ok cvars)
@@ -191,3 +196,6 @@ created_new size zone users event_room laid large = created_whole (new_memory si
 pub cvar_value-defaults : (m : Memory) (cvars : List Cvar) (name : List ℕ) → Laid m → (created m defaults).answer ≡ Ok cvars →
     cvar_value (created m defaults).after cvars name ≡ option_map (λ (d : Default). d.value) (find (λ (d : Default). bytes_eq d.name name) defaults)
 cvar_value-defaults m cvars name laid h = cvar_value-created m defaults cvars name laid defaults_texts h
+
+-- for callers: `#[tactic(auto, using(cvar_table::proofs::CreatedLaws::created_laws))]`
+pub ruleset created_laws = (Laid-created, zone_bytes-created, AreHeld-created, HoldsCvars-created, cvar_value-defaults, size-created, low-created, high-created, temp-created)

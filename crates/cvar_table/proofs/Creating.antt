@@ -1,11 +1,11 @@
 -- The creation of cvars one after another.
-use Rattle.std.proofs.Common.{◌≡◌, ℕ, ◌+◌, ◌<◌, ◌≤◌, suc, zero, List, [], ◌∷◌, ◌++◌, Option, Some, None, Result, Ok, Err, Bool, length, take, drop, get_or, map, inl, inr, refl, sym, ap, subst, ◌∙◌, arith, add-one, drop-cons}
+use Rattle.std.proofs.Common.{◌≡◌, ℕ, ◌+◌, ◌<◌, ◌≤◌, suc, zero, List, [], ◌∷◌, ◌++◌, Some, Result, Ok, Err, Bool, length, take, drop, get_or, map, inl, inr, refl, sym, ap, subst, ◌∙◌, arith, add-one, drop-cons}
 use Rattle.std.specs.Prelude.{slice_set, slice_get}
 use Rattle.mem_model.specs.Laid.{Laid}
 use Rattle.std.proofs.lemmas.Bool.{cases_lt}
 use Rattle.std.proofs.lemmas.List.{take_more, take-append-drop, take_all}
 use Rattle.mem_model.specs.Memory.{Memory}
-use Rattle.mem_model.specs.Answer.{Answered, Answers, Gives, RanOut}
+use Rattle.mem_model.specs.Answer.{Answered, Answers, Gives}
 use Rattle.mem_model.specs.Told.{zone_answer}
 use Rattle.mem_model.specs.declared.answers.Place.{Place}
 use Rattle.mem_model.specs.declared.answers.ZoneError.{ZoneError}

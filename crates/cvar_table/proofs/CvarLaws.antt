@@ -1,30 +1,34 @@
 -- Laws of the cvars, over the definitions alone: what the console needs.
-use Rattle.std.proofs.Common.{◌≡◌, ◌≢◌, ℕ, ◌+◌, List, [], ◌∷◌, ◌++◌, Option, Some, None, Result, Ok, Err, Bool, true, false, length, map, refl, sym, ap, subst, ◌∙◌, append_assoc}
+use Rattle.std.proofs.Common.{◌≡◌, ◌≢◌, ℕ, ◌+◌, List, [], ◌∷◌, ◌++◌, Option, Some, None, Result, Ok, Err, true, false, length, refl, sym, ap, subst, ◌∙◌, append_assoc}
 use Rattle.std.specs.Prelude.{is_some, IsSome}
 use Rattle.std.specs.Option.{option_and_then, option_map}
 use Rattle.std.proofs.lemmas.List.{append-nil}
 use Rattle.mem_model.specs.Memory.{Memory}
-use Rattle.mem_model.specs.Answer.{Answered, Answers, Gives}
 use Rattle.mem_model.specs.Laid.{Laid, IsText}
 use Rattle.mem_model.specs.Places.{zone_need}
 use Rattle.mem_model.specs.Zone.{zone_bytes}
-use Rattle.mem_model.specs.Apart.{NoneIs, AreUsed, AreApart}
+use Rattle.mem_model.specs.Apart.{NoneIs}
 use Rattle.zone_values.specs.Held.{AreHeld, OthersStay}
-use Rattle.zone_values.specs.Values.{value_at, put_value, replace_value}
+use Rattle.zone_values.specs.Values.{value_at, replace_value}
 use Rattle.zone_values.proofs.ValueLaws.{Laid-replace_value, zone_bytes-replace_value, value_at-replace_value, replace_value-refusal, size-replace_value, low-replace_value, high-replace_value, temp-replace_value}
-use Rattle.zone_values.proofs.HeldLaws.{value_at-kept, AreHeld-same, AreHeld-kept, AreHeld-replace_value, AreHeld-turned}
+use Rattle.zone_values.proofs.HeldLaws.{value_at-kept, AreHeld-same, AreHeld-kept, AreHeld-beside, AreHeld-replace_value, AreHeld-turned}
 use Rattle.cvar_table.specs.Cvars.{Cvar, cvar_of, cvar_value, with_place, CvarSet, set_cvar, set_found, set_by, places_of, HoldsCvars}
 use Rattle.mem_model.proofs.Untouched.{zone_bytes-same}
 use Rattle.cvar_table.proofs.Listing.{some-place}
-use Rattle.cvar_table.proofs.Setting.{IsPlaced, placed_at, cvar_of-with_place, cvar_of-elsewhere, is_some-with_place, none_of_cvar, cvars_apart}
+use Rattle.cvar_table.proofs.Setting.{placed_at, cvar_of-with_place, cvar_of-elsewhere, is_some-with_place, none_of_cvar, cvars_apart}
 
 -- Cvars stay held where each used block keeps its bytes,
 pub HoldsCvars-kept : (m n : Memory) (cvars : List Cvar) → ((place : ℕ) (bytes : List ℕ) → zone_bytes m place ≡ Some bytes → zone_bytes n place ≡ Some bytes) → HoldsCvars m cvars → HoldsCvars n cvars
 HoldsCvars-kept m n cvars kept holds = AreHeld-kept m n (places_of cvars) kept holds
 
--- also where the zone is the same.
+-- where the zone is the same,
 pub HoldsCvars-same : (m n : Memory) (cvars : List Cvar) → n.zone ≡ m.zone → HoldsCvars m cvars → HoldsCvars n cvars
 HoldsCvars-same m n cvars same holds = AreHeld-same m n (places_of cvars) same holds
+
+-- and where all but one used block keep their bytes, and that one is none of theirs.
+pub HoldsCvars-beside : (m n : Memory) (place : ℕ) (cvars : List Cvar) → ((other : ℕ) (bytes : List ℕ) → other ≢ place → zone_bytes m other ≡ Some bytes → zone_bytes n other ≡ Some bytes) →
+    NoneIs place (places_of cvars) → HoldsCvars m cvars → HoldsCvars n cvars
+HoldsCvars-beside m n place cvars kept none holds = AreHeld-beside m n place (places_of cvars) kept none holds
 
 -- what setting gives where the cvar and its new place are known
 set_given : (m : Memory) (cvars : List Cvar) (name value : List ℕ) (cvar : Cvar) (answer : Result ℕ ℕ) → cvar_of cvars name ≡ Some cvar → (replace_value m cvar.place value).answer ≡ answer →
@@ -147,13 +151,23 @@ cvar_value-set_cvar m cvars name value laid holds text =
     (λ cvar place h k e. value_of_cvar _ (with_place cvars name place) name (record cvar { place = place }) (cvar_of-with_place cvars name cvar place h)
     ∙ value_at-replace_value m value cvar.place place laid (some-cvar m cvars name cvar holds h) text k)
 
--- the cvars keep their values where each used block keeps its bytes
-pub cvar_value-kept : (m n : Memory) (cvars : List Cvar) (name : List ℕ) → ((place : ℕ) (bytes : List ℕ) → zone_bytes m place ≡ Some bytes → zone_bytes n place ≡ Some bytes) → HoldsCvars m cvars →
+-- The cvars keep their values where their blocks keep their bytes,
+value_kept : (m n : Memory) (cvars : List Cvar) (name : List ℕ) → ((cvar : Cvar) (bytes : List ℕ) → cvar_of cvars name ≡ Some cvar → zone_bytes m cvar.place ≡ Some bytes → zone_bytes n cvar.place ≡ Some bytes) → HoldsCvars m cvars →
     cvar_value n cvars name ≡ cvar_value m cvars name
-cvar_value-kept m n cvars name kept holds = by (cvar_of cvars name) refl where
+value_kept m n cvars name kept holds = by (cvar_of cvars name) refl where
   by : (o : Option Cvar) → cvar_of cvars name ≡ o → cvar_value n cvars name ≡ cvar_value m cvars name
   by None h = value_of_none n cvars name h ∙ sym (value_of_none m cvars name h)
-  by (Some cvar) h = value_of_cvar n cvars name cvar h ∙ value_at-kept m n cvar.place (some-cvar m cvars name cvar holds h) (kept cvar.place) ∙ sym (value_of_cvar m cvars name cvar h)
+  by (Some cvar) h = value_of_cvar n cvars name cvar h ∙ value_at-kept m n cvar.place (some-cvar m cvars name cvar holds h) (λ bytes there. kept cvar bytes h there) ∙ sym (value_of_cvar m cvars name cvar h)
+
+-- as each used block does,
+pub cvar_value-kept : (m n : Memory) (cvars : List Cvar) (name : List ℕ) → ((place : ℕ) (bytes : List ℕ) → zone_bytes m place ≡ Some bytes → zone_bytes n place ≡ Some bytes) → HoldsCvars m cvars →
+    cvar_value n cvars name ≡ cvar_value m cvars name
+cvar_value-kept m n cvars name kept holds = value_kept m n cvars name (λ cvar bytes h there. kept cvar.place bytes there) holds
+
+-- or each but one that is none of theirs.
+pub cvar_value-beside : (m n : Memory) (place : ℕ) (cvars : List Cvar) (name : List ℕ) → ((other : ℕ) (bytes : List ℕ) → other ≢ place → zone_bytes m other ≡ Some bytes → zone_bytes n other ≡ Some bytes) →
+    NoneIs place (places_of cvars) → HoldsCvars m cvars → cvar_value n cvars name ≡ cvar_value m cvars name
+cvar_value-beside m n place cvars name kept none holds = value_kept m n cvars name (λ cvar bytes h there. kept cvar.place bytes (none_of_cvar place cvars name cvar none h) there) holds
 
 -- Each other cvar keeps its value.
 pub cvar_value-set_other : (m : Memory) (cvars : List Cvar) (name value other : List ℕ) → Laid m → HoldsCvars m cvars → other ≢ name →
@@ -184,3 +198,6 @@ high-set_cvar m cvars name value = set_cases (λ s. s.given.after.high ≡ m.hig
 
 pub temp-set_cvar : (m : Memory) (cvars : List Cvar) (name value : List ℕ) → (set_cvar m cvars name value).given.after.temp ≡ m.temp
 temp-set_cvar m cvars name value = set_cases (λ s. s.given.after.temp ≡ m.temp) m cvars name value (λ h. refl) (λ cvar told h k. temp-replace_value m value cvar.place) (λ cvar place h k. temp-replace_value m value cvar.place)
+
+-- for callers: `#[tactic(auto, using(cvar_table::proofs::CvarLaws::cvar_laws))]`
+pub ruleset cvar_laws = (HoldsCvars-same, Laid-set_cvar, set_cvar-others, AreHeld-set_cvar, HoldsCvars-set_cvar, is_some-set_cvar, cvar_value-set_cvar, cvar_value-set_other, size-set_cvar, low-set_cvar, high-set_cvar, temp-set_cvar)

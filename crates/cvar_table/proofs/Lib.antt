@@ -1,3 +1,4 @@
+mod Examples
 mod Listing
 mod Setting
 mod Calls

@@ -1,8 +1,7 @@
 -- The cvars where one of them gets another place.
-use Rattle.std.proofs.Common.{◌≡◌, ◌≢◌, ℕ, List, [], ◌∷◌, ◌++◌, Option, Some, None, Result, Ok, Err, Bool, true, false, cond, refl, sym, ap, subst, ◌∙◌, ◌⊎◌, inl, inr, bytes_eq, if◌then◌else◌}
-use Rattle.std.specs.Prelude.{is_some, IsSome}
+use Rattle.std.proofs.Common.{◌≡◌, ◌≢◌, ℕ, List, [], ◌∷◌, ◌++◌, Some, Bool, true, false, cond, refl, sym, ap, subst, ◌∙◌, ◌⊎◌, inl, inr, bytes_eq}
+use Rattle.std.specs.Prelude.{is_some}
 use Rattle.std.proofs.lemmas.Slice.Eq.{bytes_eq-Decides}
-use Rattle.mem_model.specs.Memory.{Memory}
 use Rattle.mem_model.specs.Apart.{NoneIs, AreApart}
 use Rattle.cvar_table.specs.Cvars.{Cvar, cvar_of, with_place, places_of}
 

@@ -1,5 +1,6 @@
 -- The cvars: variables of the console, each a name and the place of its value in the zone.
-use Rattle.std.specs.Prelude.{ℕ, List, [], ◌∷◌, Bool, true, false, Option, Some, None, Result, Ok, Err, if◌then◌else◌, map, find, bytes_eq, codes}
+use Rattle.std.specs.Prelude.{ℕ, List, [], ◌∷◌, Bool, true, false, Option, Some, None, Result, Ok, Err, if◌then◌else◌}
+use Rattle.std.specs.Prelude.{map, find, bytes_eq, codes}
 use Rattle.std.specs.Option.{option_and_then}
 use Rattle.mem_model.specs.Memory.{Memory}
 use Rattle.mem_model.specs.Answer.{Answered}
@@ -34,8 +35,10 @@ created_first cvar (Ok cvars) = Ok (cvar ∷ cvars)
 created_first cvar (Err asked) = Err asked
 
 -- what the rest of the defaults gives follows the block of the first, where that was made
-abbrev pub created_by : List ℕ → Result ℕ ℕ → Memory → (Memory → Answered (Result (List Cvar) ℕ)) → Answered (Result (List Cvar) ℕ)
-created_by name (Ok place) m rest = record { answer = created_first (record { name = name; place = place }) (rest m).answer; after = (rest m).after }
+abbrev pub created_by : List ℕ → Result ℕ ℕ → Memory → (Memory → Answered (Result (List Cvar) ℕ)) →
+    Answered (Result (List Cvar) ℕ)
+created_by name (Ok place) m rest =
+    record { answer = created_first (record { name = name; place = place }) (rest m).answer; after = (rest m).after }
 created_by name (Err asked) m rest = record { answer = Err asked; after = m }
 
 -- Each default gets a block for its value, in order. The first refusal is the answer, and the blocks made before it stay.
@@ -54,23 +57,27 @@ cvar_value m cvars name = option_and_then (λ cvar. value_at m cvar.place) (cvar
 -- the cvars with another place for the one of this name
 abbrev pub with_place : List Cvar → List ℕ → ℕ → List Cvar
 with_place [] name place = []
-with_place (cvar ∷ cvars) name place = if bytes_eq cvar.name name then record cvar { place = place } ∷ cvars else cvar ∷ with_place cvars name place
+with_place (cvar ∷ cvars) name place =
+    if bytes_eq cvar.name name then record cvar { place = place } ∷ cvars else cvar ∷ with_place cvars name place
 
--- What setting a cvar gives: whether there is one, or what its block needs where the zone is full, with the memory after it; and
--- the cvars after it.
+-- What setting a cvar gives: whether there is one, or what its block needs where the zone is full, with the memory after it;
+-- and the cvars after it.
 pub record CvarSet : Type 0 where
   pub given : Answered (Result Bool ℕ)
   pub cvars : List Cvar
 
 abbrev pub set_by : List Cvar → List ℕ → Answered (Result ℕ ℕ) → Result ℕ ℕ → CvarSet
-set_by cvars name given (Ok place) = record { given = record { answer = Ok true; after = given.after }; cvars = with_place cvars name place }
+set_by cvars name given (Ok place) =
+    record { given = record { answer = Ok true; after = given.after }; cvars = with_place cvars name place }
 set_by cvars name given (Err asked) = record { given = record { answer = Err asked; after = given.after }; cvars = cvars }
 
 abbrev pub set_found : Memory → List Cvar → List ℕ → List ℕ → Option Cvar → CvarSet
 set_found m cvars name value None = record { given = record { answer = Ok false; after = m }; cvars = cvars }
-set_found m cvars name value (Some cvar) = set_by cvars name (replace_value m cvar.place value) (replace_value m cvar.place value).answer
+set_found m cvars name value (Some cvar) =
+    set_by cvars name (replace_value m cvar.place value) (replace_value m cvar.place value).answer
 
--- The value of the cvar of exactly this name is replaced. Without such a cvar, and where the zone is full, nothing changes.
+-- The value of the cvar of exactly this name is replaced. Without such a cvar nothing changes, and where the zone is full no
+-- block does.
 unfoldable pub set_cvar : Memory → List Cvar → List ℕ → List ℕ → CvarSet
 set_cvar m cvars name value = set_found m cvars name value (cvar_of cvars name)
 

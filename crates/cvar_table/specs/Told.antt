@@ -1,5 +1,5 @@
 -- What the results of the calls tell: none where the call ran out of memory.
-use Rattle.std.specs.Prelude.{ℕ, Bool, List, [], ◌∷◌, Option, Some, None, Result, Ok, Err}
+use Rattle.std.specs.Prelude.{ℕ, List, [], ◌∷◌, Option, Some, None, Result, Ok, Err}
 use Rattle.mem_model.specs.declared.answers.Place.{Place}
 use Rattle.mem_model.specs.declared.answers.ZoneError.{ZoneError}
 use Rattle.mem_model.specs.declared.answers.ZoneError.TheVariants as zone_error

@@ -1,7 +1,8 @@
 //! The cvars: variables of the console with values in the zone.
 #![tactic(auto)]
 
-ghost use Rattle.std.specs.Prelude.{◌≡◌, ℕ, ◌<◌, ◌^◌, Some, None, MatchOption, is_some, IfSome, IfOk, OnErr, length, take, map, position, slice_get, bytes_eq};
+ghost use Rattle.std.specs.Prelude.{◌≡◌, ℕ, ◌<◌, ◌^◌, Some, None, MatchOption, is_some, IfSome, IfOk, OnErr};
+ghost use Rattle.std.specs.Prelude.{length, take, map, position, slice_get, bytes_eq};
 ghost use Rattle.std.specs.Option.{option_map};
 ghost use Rattle.mem_model.specs.Answer.{Gives};
 ghost use Rattle.mem_model.specs.Laid.{Laid, IsText};
@@ -114,8 +115,8 @@ impl Cvars {
     /// Replaces the value of the cvar of exactly this name, and answers whether there is one. The new value gets its block
     /// before that of the old one is freed.
     ///
-    /// `Full` tells what that block needs where no free block of the zone holds it. It changes nothing, and neither does want
-    /// of memory.
+    /// `Full` tells what that block needs where no free block of the zone holds it. It changes nothing but for the event,
+    /// where events are kept, and want of memory changes nothing at all.
     pub fn set<M: Store>(
         &mut self,
         store: &mut M,
@@ -127,7 +128,8 @@ impl Cvars {
         requires short { length value.now < 2 ^ 62 }
         ensures gives { Gives (set_cvar (M.state store.old) self.old name.now value.now).given M.frugal
             (M.state store.old) (zone_told result) (M.state store.new) }
-        ensures cvars { IfSome (zone_told result) (λ _. self.new ≡ (set_cvar (M.state store.old) self.old name.now value.now).cvars) }
+        ensures cvars { IfSome (zone_told result) (λ _.
+            self.new ≡ (set_cvar (M.state store.old) self.old name.now value.now).cvars) }
         ensures stays { OnErr result (self.new ≡ self.old) }
         ensures holds { HoldsCvars (M.state store.new) self.new }
         ensures others { OthersStay (M.state store.old) (M.state store.new) (places_of self.old) (places_of self.new) }

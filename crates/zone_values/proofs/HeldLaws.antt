@@ -1,20 +1,17 @@
 -- Laws of places that are held: what keeps each of them used, and no two the same.
-use Rattle.std.proofs.Common.{◌≡◌, ◌≢◌, ℕ, List, [], ◌∷◌, ◌++◌, Option, Some, None, Result, Ok, Err, refl, sym, ap, ◌∙◌}
+use Rattle.std.proofs.Common.{◌≡◌, ◌≢◌, ℕ, List, [], ◌∷◌, ◌++◌, Some, Ok, refl, sym, ap, ◌∙◌}
 use Rattle.std.specs.Prelude.{IsSome}
 use Rattle.std.specs.Option.{option_map}
 use Rattle.base_fields.specs.Texts.{until_zero}
 use Rattle.mem_model.specs.Memory.{Memory}
 use Rattle.mem_model.specs.Laid.{Laid}
-use Rattle.mem_model.specs.Zone.{zone_bytes}
+use Rattle.mem_model.specs.Zone.{zone_bytes, with_zone_bytes}
+use Rattle.mem_model.specs.Operations.{z_alloc, z_free}
 use Rattle.mem_model.specs.Apart.{NoneIs, AreApart, AreUsed}
-use Rattle.mem_model.proofs.ZoneLaws.{AreUsed-same}
+use Rattle.mem_model.proofs.ZoneLaws.{some-z_new, NoneIs-z_new, AreUsed-z_alloc, AreUsed-z_free, AreUsed-with_zone_bytes, AreUsed-same}
 use Rattle.zone_values.specs.Values.{value_at, put_value, replace_value}
 use Rattle.zone_values.specs.Held.{AreHeld, NoneAmong}
-use Rattle.zone_values.proofs.ValueLaws.{NoneIs-put_value, zone_bytes-put_value, some-put_new, NoneIs-replace_value, zone_bytes-replace_value, some-replace_new}
-
-pub some_bytes : (o : Option (List ℕ)) → IsSome o → (bytes : List ℕ) × (o ≡ Some bytes)
-some_bytes None h = absurd (cc)
-some_bytes (Some bytes) h = (bytes, refl)
+use Rattle.zone_values.proofs.ValueLaws.{some_bytes, NoneIs-put_value, zone_bytes-put_value, some-put_new, NoneIs-replace_value, zone_bytes-replace_value, some-replace_new}
 
 -- a used block that keeps its bytes stays used
 pub some-kept : (m n : Memory) (place : ℕ) → ((bytes : List ℕ) → zone_bytes m place ≡ Some bytes → zone_bytes n place ≡ Some bytes) → IsSome (zone_bytes m place) → IsSome (zone_bytes n place)
@@ -37,6 +34,33 @@ AreHeld-kept m n places kept held = record { used = AreUsed-kept m n places kept
 -- also where the zone is the same.
 pub AreHeld-same : (m n : Memory) (places : List ℕ) → n.zone ≡ m.zone → AreHeld m places → AreHeld n places
 AreHeld-same m n places same held = record { used = AreUsed-same m n places same held.used; apart = held.apart }
+
+-- They stay held where all but one used block keep their bytes, and that one is none of theirs.
+pub AreHeld-beside : (m n : Memory) (place : ℕ) (places : List ℕ) → ((other : ℕ) (bytes : List ℕ) → other ≢ place → zone_bytes m other ≡ Some bytes → zone_bytes n other ≡ Some bytes) →
+    NoneIs place places → AreHeld m places → AreHeld n places
+AreHeld-beside m n place places kept none held = record { used = beside places none held.used; apart = held.apart } where
+  beside : (others : List ℕ) → NoneIs place others → AreUsed m others → AreUsed n others
+  beside [] none used = tt
+  beside (other ∷ others) none used = (some-kept m n other (λ bytes there. kept other bytes none.0 there) used.0, beside others none.1 used.1)
+
+-- The calls of the zone: an allocation leaves them held,
+pub AreHeld-z_alloc : (m : Memory) (size : ℕ) (places : List ℕ) → Laid m → AreHeld m places → AreHeld (z_alloc m size).after places
+AreHeld-z_alloc m size places laid held = record { used = AreUsed-z_alloc m size places laid held.used; apart = held.apart }
+
+-- with the new place beside them,
+pub AreHeld-z_new : (m : Memory) (size place : ℕ) (places : List ℕ) → Laid m → (z_alloc m size).answer ≡ Ok place → AreHeld m places → AreHeld (z_alloc m size).after (place ∷ places)
+AreHeld-z_new m size place places laid h held = record {
+  used = (some-z_new m size place laid h, AreUsed-z_alloc m size places laid held.used);
+  apart = (NoneIs-z_new m size place places laid h held.used, held.apart);
+}
+
+-- a freeing leaves the others held,
+pub AreHeld-z_free : (m : Memory) (place : ℕ) (places : List ℕ) → Laid m → AreHeld m (place ∷ places) → AreHeld (z_free m place).after places
+AreHeld-z_free m place places laid held = record { used = AreUsed-z_free m place places laid held.apart.0 held.used.1; apart = held.apart.1 }
+
+-- and a write all.
+pub AreHeld-with_zone_bytes : (m : Memory) (place : ℕ) (bytes : List ℕ) (places : List ℕ) → AreHeld m places → AreHeld (with_zone_bytes m place bytes) places
+AreHeld-with_zone_bytes m place bytes places held = record { used = AreUsed-with_zone_bytes m place bytes places held.used; apart = held.apart }
 
 -- Places stay held where a value is put, or refused.
 pub AreHeld-put_value : (m : Memory) (value : List ℕ) (places : List ℕ) → Laid m → AreHeld m places → AreHeld (put_value m value).after places
@@ -145,4 +169,4 @@ AreHeld-replace_value m value old place front back laid h held =
     AreHeld-turned _ (place ∷ back) front (replaced_first m value old place (back ++ front) laid h (AreHeld-turned m front (old ∷ back) held))
 
 -- for callers: `#[tactic(auto, using(zone_values::proofs::HeldLaws::held_laws))]`
-pub ruleset held_laws = (AreHeld-kept, AreHeld-same, AreHeld-put_value, AreHeld-put_new, AreHeld-front, AreHeld-back, AreHeld-replace_value)
+pub ruleset held_laws = (AreHeld-same, AreHeld-z_alloc, AreHeld-z_new, AreHeld-z_free, AreHeld-with_zone_bytes, AreHeld-put_value, AreHeld-put_new, AreHeld-front, AreHeld-back, AreHeld-replace_value)

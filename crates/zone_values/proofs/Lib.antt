@@ -1,3 +1,4 @@
+mod Examples
 pub mod Writing
 mod Putting
 pub mod ValueLaws

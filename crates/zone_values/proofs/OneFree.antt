@@ -1,13 +1,12 @@
 -- What a zone with one free block gives.
-use Rattle.std.proofs.Common.{◌≡◌, ℕ, suc, ◌+◌, ◌-◌, ◌<◌, ◌≤◌, List, [], ◌∷◌, ◌++◌, Option, Some, None, Result, Ok, Err, Bool, true, false, not, ◌&&◌, cond, if◌then◌else◌, eqb, leb, ltb, length, map, take, drop, refl, sym, ap, subst, ◌∙◌, arith}
-use Rattle.std.specs.Prelude.{nat_le, nat_lt, nat_eq, slice_get}
+use Rattle.std.proofs.Common.{◌≡◌, ℕ, suc, ◌+◌, ◌-◌, ◌<◌, ◌≤◌, List, [], ◌∷◌, ◌++◌, Some, Result, Ok, true, false, not, ◌&&◌, cond, if◌then◌else◌, eqb, leb, length, map, take, drop, refl, sym, ap, ◌∙◌, arith}
 use Rattle.std.specs.Option.{option_map}
 use Rattle.std.proofs.lemmas.Bool.{le-leb, lt-ltb}
 use Rattle.mem_model.specs.Blocks.{ZoneBlock}
 use Rattle.mem_model.specs.Memory.{Memory, Zone}
 use Rattle.mem_model.specs.Laid.{Laid}
 use Rattle.mem_model.specs.Places.{zone_need, least, lesser}
-use Rattle.mem_model.specs.Zone.{free_block, used_block, free_positions, distance, position_after, chosen, taken, taken_at, replaced, with_taken, with_payload, with_payload_from, with_zone_bytes, place_at}
+use Rattle.mem_model.specs.Zone.{free_positions, distance, position_after, chosen, taken, taken_at, with_taken, with_payload, with_payload_from, with_zone_bytes, place_at}
 use Rattle.mem_model.specs.Operations.{z_alloc, z_taken}
 use Rattle.mem_model.proofs.ZoneLists.{parted, chosen_fits}
 use Rattle.mem_model.proofs.Untouched.{zone-with_event}

@@ -1,7 +1,7 @@
 -- What the calls give, from what the zone gave them.
-use Rattle.std.proofs.Common.{◌≡◌, ℕ, ◌+◌, List, Option, Some, None, Result, Ok, Err, Bool, length, refl, sym, ap, ◌∙◌}
+use Rattle.std.proofs.Common.{◌≡◌, ℕ, ◌+◌, List, Some, Result, Ok, Err, Bool, length, sym, ap, ◌∙◌}
 use Rattle.mem_model.specs.Memory.{Memory}
-use Rattle.mem_model.specs.Answer.{Answered, Answers, Gives}
+use Rattle.mem_model.specs.Answer.{Answers, Gives}
 use Rattle.mem_model.specs.Told.{zone_answer}
 use Rattle.mem_model.specs.declared.answers.ZoneError.{ZoneError}
 use Rattle.mem_model.specs.declared.answers.ZoneError.TheVariants as zone_error

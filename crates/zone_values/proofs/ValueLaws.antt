@@ -1,12 +1,11 @@
 -- Laws of values in the zone, over the definitions alone: what those who keep values need.
-use Rattle.std.proofs.Common.{◌≡◌, ◌≢◌, ℕ, ◌+◌, ◌≤◌, List, [], ◌∷◌, ◌++◌, Option, Some, None, Result, Ok, Err, length, drop, replicate, refl, sym, ap, ◌∙◌, arith, append_assoc, length-append}
+use Rattle.std.proofs.Common.{◌≡◌, ◌≢◌, ℕ, ◌+◌, List, [], ◌∷◌, ◌++◌, Option, Some, None, Result, Ok, Err, length, drop, replicate, refl, sym, ap, ◌∙◌, arith, append_assoc, length-append}
 use Rattle.std.specs.Prelude.{IsSome}
 use Rattle.std.specs.Option.{option_map}
 use Rattle.std.proofs.lemmas.List.{length-replicate}
 use Rattle.base_fields.specs.Texts.{until_zero}
 use Rattle.base_fields.proofs.TextLaws.{until_zero_of_ended}
 use Rattle.mem_model.specs.Memory.{Memory}
-use Rattle.mem_model.specs.Answer.{Answered}
 use Rattle.mem_model.specs.Laid.{Laid, IsText}
 use Rattle.mem_model.specs.Places.{zone_need}
 use Rattle.mem_model.specs.Hunk.{over}
@@ -127,7 +126,8 @@ zone_bytes-replace_new m value bytes old place laid was h =
     let new = zone_bytes-put_new m value place laid put in
     (new.0, ap (λ (n : Memory). zone_bytes n place) (after_replace m old value place h) ∙ zone_bytes-z_free _ old place _ (Laid-put_value m value laid) (λ same. put_apart m value bytes place old laid put was (sym same)) new.1)
 
-some_bytes : (o : Option (List ℕ)) → IsSome o → (bytes : List ℕ) × (o ≡ Some bytes)
+-- the bytes that are there
+pub some_bytes : (o : Option (List ℕ)) → IsSome o → (bytes : List ℕ) × (o ≡ Some bytes)
 some_bytes None h = absurd (cc)
 some_bytes (Some bytes) h = (bytes, refl)
 

@@ -1,5 +1,5 @@
 -- A value written over the front of a block's bytes.
-use Rattle.std.proofs.Common.{◌≡◌, ℕ, ◌+◌, ◌-◌, ◌<◌, ◌≤◌, suc, List, [], ◌∷◌, ◌++◌, Some, None, true, false, if◌then◌else◌, length, take, drop, refl, sym, ap, ◌∙◌, arith, append_assoc, length-append, length-drop, drop-cons, eqb, cond}
+use Rattle.std.proofs.Common.{◌≡◌, ℕ, ◌+◌, ◌<◌, ◌≤◌, suc, List, [], ◌∷◌, ◌++◌, Some, None, true, false, if◌then◌else◌, length, drop, refl, sym, ap, ◌∙◌, arith, append_assoc, length-append, length-drop, drop-cons, eqb, cond}
 use Rattle.std.proofs.lemmas.List.{set_at, take_all}
 use Rattle.std.specs.Prelude.{slice_set}
 use Rattle.mem_model.specs.Blocks.{ZoneBlock}

@@ -23,10 +23,12 @@ pub fn value_at<M: Store>(store: &M, place: Place) -> &[u8]
 
 /// Puts a value into a new block of the zone, and answers its place.
 ///
-/// `Full` tells what the block needs where no free block holds it. It changes nothing, and neither does want of memory.
+/// `Full` tells what the block needs where no free block holds it. It changes nothing but for the event, where events are
+/// kept, and want of memory changes nothing at all.
 pub fn put_value<M: Store>(store: &mut M, value: &[u8]) -> Result<Place, ZoneError>
     requires short { length value.now < 2 ^ 62 }
-    ensures gives { Gives (put_value (M.state store.old) value.now) M.frugal (M.state store.old) (zone_answer result) (M.state store.new) }
+    ensures gives { Gives (put_value (M.state store.old) value.now) M.frugal (M.state store.old) (zone_answer result)
+        (M.state store.new) }
     ensures was_laid { Laid (M.state store.old) }
     ensures laid { Laid (M.state store.new) }
 {
@@ -50,10 +52,12 @@ fn write_value(bytes: &mut [u8], value: &[u8])
 
 /// Puts a value into a new block of the zone, frees the block of an old one, and answers the new place.
 ///
-/// `Full` tells what the block needs where no free block holds it. It changes nothing, and neither does want of memory.
+/// `Full` tells what the block needs where no free block holds it. It changes nothing but for the event, where events are
+/// kept, and want of memory changes nothing at all.
 pub fn replace_value<M: Store>(store: &mut M, old: Place, value: &[u8]) -> Result<Place, ZoneError>
     requires short { length value.now < 2 ^ 62 }
-    ensures gives { Gives (replace_value (M.state store.old) old.0 value.now) M.frugal (M.state store.old) (zone_answer result) (M.state store.new) }
+    ensures gives { Gives (replace_value (M.state store.old) old.0 value.now) M.frugal (M.state store.old)
+        (zone_answer result) (M.state store.new) }
     ensures was_laid { Laid (M.state store.old) }
     ensures laid { Laid (M.state store.new) }
 {
@@ -62,7 +66,7 @@ pub fn replace_value<M: Store>(store: &mut M, old: Place, value: &[u8]) -> Resul
             let _ = store.z_free(old);
             Ok(place)
         }
-        Err(error) => Err(error),
+        Err(refusal) => Err(refusal),
     }
 }
 

@@ -1,4 +1,4 @@
-use Rattle.std.proofs.Common.{ℕ, List, refl, ◌∙◌, rules, tests, bytes_eq}
+use Rattle.std.proofs.Common.{rules, tests, bytes_eq}
 use Rattle.std.proofs.lemmas.Iterator.{YieldsList-from_slice}
 use Rattle.std.proofs.lemmas.Iterator.Search.{position_from_yields_List}
 use Rattle.cvar_table.proofs.position_of.Goals as goal

@@ -1,7 +1,4 @@
-use Rattle.std.proofs.Common.{◌≡◌, ◌+◌, ℕ, length, Ok, Err, ap, subst, ◌∙◌, sym, refl, arith}
-use Rattle.std.specs.Prelude.{IsSome}
-use Rattle.mem_model.specs.Memory.{Memory}
-use Rattle.mem_model.specs.Zone.{zone_bytes}
+use Rattle.std.proofs.Common.{◌+◌, length, arith}
 use Rattle.mem_model.proofs.ZoneLaying.{Laid-with_zone_bytes}
 use Rattle.mem_model.proofs.ZoneLaws.{some-z_new, length-z_new}
 use Rattle.zone_values.proofs.Putting.{put_given, put_without}

@@ -1,4 +1,4 @@
-use Rattle.std.proofs.Common.{◌≡◌, Some, ap, ◌∙◌, sym}
+use Rattle.std.proofs.Common.{Some, ap, ◌∙◌, sym}
 use Rattle.std.specs.Option.{option_map}
 use Rattle.base_fields.specs.Texts.{until_zero}
 use Rattle.zone_values.specs.Values.{value_at}

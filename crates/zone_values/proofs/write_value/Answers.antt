@@ -1,5 +1,4 @@
 use Rattle.std.proofs.Common.{◌∙◌, ap, List, ℕ, ◌++◌, length, drop}
-use Rattle.std.proofs.lemmas.List.{take_all}
 use Rattle.std.specs.Prelude.{slice_set}
 use Rattle.zone_values.proofs.Writing.{written_over}
 use Rattle.zone_values.proofs.write_value.Goals as goal

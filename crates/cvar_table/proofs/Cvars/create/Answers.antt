@@ -1,4 +1,4 @@
-use Rattle.std.proofs.Common.{◌≡◌, ◌<◌, ◌≤◌, Ok, length, take, refl, arith}
+use Rattle.std.proofs.Common.{Ok, refl, arith}
 use Rattle.std.proofs.lemmas.List.{length-set}
 use Rattle.mem_model.specs.Answer.{Answers}
 use Rattle.mem_model.specs.declared.answers.Place.{Place}

@@ -1,4 +1,4 @@
-use Rattle.std.proofs.Common.{◌≡◌, ℕ, Option, ap, sym, ◌∙◌, arith}
+use Rattle.std.proofs.Common.{ap, sym, arith}
 use Rattle.std.specs.Option.{option_map}
 use Rattle.cvar_table.specs.Cvars.{Cvar}
 use Rattle.cvar_table.proofs.Listing.{cvar_found, cvar_missing}

@@ -1,4 +1,4 @@
-use Rattle.std.proofs.Common.{◌≡◌, sym, arith}
+use Rattle.std.proofs.Common.{sym, arith}
 use Rattle.cvar_table.proofs.Calls.{set_done, set_undone, set_nothing, holds_done, holds_undone, stay_done, stay_undone}
 use Rattle.cvar_table.proofs.Cvars.set.Goals as goal
 
