@@ -1,3 +1,5 @@
+pub mod AliasAdding
+pub mod AliasAnswers
 pub mod AliasLaws
 pub mod AliasNames
 pub mod AliasReads
