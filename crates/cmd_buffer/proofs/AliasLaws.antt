@@ -9,7 +9,7 @@ use Rattle.zone_values.specs.Held.{AreHeld, KeepsAt}
 use Rattle.zone_values.proofs.HeldLaws.{some-kept}
 use Rattle.cmd_buffer.specs.Aliases.{Alias, alias_at, alias_and, next_in, name_in, value_in, IsRecord, IsChain, HoldsAliases, followed, aliases_of, alias_places}
 
-chain_still : (m n : Memory) (first : Option ℕ) (aliases : List Alias) → KeepsAt m n (alias_places aliases) → IsChain m first aliases → IsChain n first aliases
+pub chain_still : (m n : Memory) (first : Option ℕ) (aliases : List Alias) → KeepsAt m n (alias_places aliases) → IsChain m first aliases → IsChain n first aliases
 chain_still m n first [] keeps chain = chain
 chain_still m n first (a ∷ older) keeps chain =
     let next = chain.1.0 in

@@ -1,3 +1,6 @@
+pub mod AliasAdding
+pub mod AliasAnswers
+pub mod AliasChanging
 pub mod AliasLaws
 pub mod AliasNames
 pub mod AliasReads
