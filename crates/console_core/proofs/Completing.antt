@@ -1,5 +1,5 @@
 -- What the outcome of a run says of its status.
-use Rattle.std.proofs.Common.{◌≡◌, ◌≤◌, ◌+◌, ℕ, List, ◌++◌, length, map, Option, Some, None, Result, Ok, Err, IfSome, IfOk, IsSomeAnd, refl, ap, ◌∙◌, arith, subst, length-append}
+use Rattle.std.proofs.Common.{◌≡◌, ◌≤◌, ◌+◌, ℕ, List, ◌++◌, length, map, Option, Some, None, Result, Ok, Err, IfOk, IsSomeAnd, refl, ap, ◌∙◌, arith, subst, length-append}
 use Rattle.std.specs.Prelude.{◌↔◌}
 use Rattle.outside_io.specs.Causes.{Rose}
 use Rattle.outside_io.specs.Files.{File}

@@ -1,17 +1,16 @@
 -- What a console keeps stays over the steps of its commands.
-use Rattle.std.proofs.Common.{◌≡◌, ◌≢◌, ℕ, List, [], ◌∷◌, ◌++◌, Bool, Some, None, Option, Result, Ok, Err, refl, sym, ap, ◌∙◌, subst}
-use Rattle.std.specs.List.{AllByRecursion}
+use Rattle.std.proofs.Common.{◌≡◌, ◌≢◌, ℕ, List, [], ◌∷◌, Bool, Some, None, Option, Result, Ok, Err, sym, ap, ◌∙◌, subst}
 use Rattle.std.proofs.lemmas.List.Elements.{All-nil}
 use Rattle.mem_model.specs.Memory.{Memory, new_memory}
 use Rattle.mem_model.specs.Laid.{Laid, IsText}
 use Rattle.mem_model.specs.Zone.{zone_bytes}
-use Rattle.mem_model.specs.Apart.{NoneIs, AreUsed}
+use Rattle.mem_model.specs.Apart.{AreUsed}
 use Rattle.mem_model.specs.Event.{Shortage}
 use Rattle.mem_model.specs.Answer.{Answers, Gives}
 use Rattle.mem_model.specs.Hunk.{without_temp}
 use Rattle.mem_model.specs.Operations.{low_alloc, high_alloc, high_mark, high_free}
 use Rattle.mem_model.proofs.Untouched.{zone_bytes-same, zone-low_alloc, zone-high_alloc, zone-high_mark, zone-high_free, zone-without_temp}
-use Rattle.zone_values.specs.Held.{AreHeld, NoneAmong, OthersStay, KeepsAt}
+use Rattle.zone_values.specs.Held.{NoneAmong, OthersStay, KeepsAt}
 use Rattle.zone_values.proofs.HeldLaws.{some-kept, AreHeld-same, among_turned}
 use Rattle.zone_values.proofs.ValueLaws.{some_bytes}
 use Rattle.cvar_table.specs.Cvars.{Cvar, HoldsCvars, created, defaults, places_of as cvar_places}
@@ -97,7 +96,6 @@ zone_after_low m n size name frugal (Some reply) given = ap (λ (x : Memory). x.
 pub zone_after_high : (m n : Memory) (size : ℕ) (name : List ℕ) (frugal : Bool) (reply : Option (Result ℕ Shortage)) → Gives (high_alloc m size name) frugal (without_temp m) reply n → n.zone ≡ m.zone
 zone_after_high m n size name frugal None given = ap (λ (x : Memory). x.zone) given.after ∙ zone-without_temp m
 zone_after_high m n size name frugal (Some reply) given = ap (λ (x : Memory). x.zone) given.after ∙ zone-high_alloc m size name
-
 
 -- the zone once the high hunk was cleared, and a block was asked for there
 pub zone_after_video : (m marked freed n : Memory) (size : ℕ) (name : List ℕ) (frugal : Bool) (mark : ℕ) (answer : Result (Unit {0}) ℕ) (reply : Option (Result ℕ Shortage)) →

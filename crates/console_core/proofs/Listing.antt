@@ -1,7 +1,7 @@
 -- The lines of aliases, one after another.
 use Rattle.std.proofs.Common.{◌≡◌, List, ℕ, [], ◌∷◌, ◌++◌, drop, Option, Some, None, ap, refl, sym, subst}
 use Rattle.std.specs.Prelude.{slice_get}
-use Rattle.outside_io.specs.Streams.{Adds, AddsFront}
+use Rattle.outside_io.specs.Streams.{AddsFront}
 use Rattle.outside_io.proofs.Puts.{PutSoFar}
 use Rattle.reply_pieces.specs.Pieces.{HoldsBack}
 use Rattle.reply_pieces.proofs.Holding.{next_held, held_front}

@@ -1,5 +1,5 @@
 -- The text of a command that was taken from the buffer.
-use Rattle.std.proofs.Common.{◌≡◌, ◌≢◌, ℕ, ◌<◌, List, length, take, drop, ◌++◌, Bool, true, false, Option, Some, None, IfSome, sym, ◌∙◌, ap, subst, arith, refl, leb, if◌then◌else◌}
+use Rattle.std.proofs.Common.{◌≡◌, ◌≢◌, ℕ, ◌<◌, List, length, ◌++◌, true, false, Option, Some, None, IfSome, sym, subst, arith, refl, leb, if◌then◌else◌}
 use Rattle.std.proofs.lemmas.Bool.{ne_eqb}
 use Rattle.std.proofs.lemmas.List.{take_at, drop_at}
 use Rattle.std.proofs.lemmas.List.Elements.{All-take, All-drop}

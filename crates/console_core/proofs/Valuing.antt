@@ -1,5 +1,5 @@
 -- What commands on aliases and cvars did.
-use Rattle.std.proofs.Common.{◌≡◌, ◌≢◌, ℕ, zero, suc, arith, drop, length, List, [], ◌∷◌, ◌++◌, Bool, true, false, Option, Some, None, Result, Ok, Err, refl, sym, ◌∙◌, ap, if◌then◌else◌}
+use Rattle.std.proofs.Common.{◌≡◌, ◌≢◌, ℕ, zero, suc, arith, drop, length, List, [], ◌∷◌, ◌++◌, Bool, true, false, Option, Result, refl, sym, ◌∙◌, ap, if◌then◌else◌}
 use Rattle.std.specs.Prelude.{codes}
 use Rattle.std.specs.List.{AllByRecursion}
 use Rattle.std.proofs.lemmas.Bool.{eq-eqb, ne_eqb}
@@ -12,7 +12,7 @@ use Rattle.cvar_table.specs.Cvars.{Cvar, CvarSet}
 use Rattle.cmd_buffer.specs.Aliases.{AliasSet, AliasRefusal, set_alias}
 use Rattle.cmd_buffer.specs.AliasCalls.{IsSet}
 use Rattle.console_core.specs.States.{State, Replies, Follows, says}
-use Rattle.console_core.specs.Commands.{fits_in, word_at, spaced, full_text, answer_expansion, cvar_was_set, cvar_set_text, answer_alias, list_aliases, make_alias, alias_was_set, alias_set_text}
+use Rattle.console_core.specs.Commands.{fits_in, word_at, spaced, answer_expansion, cvar_was_set, cvar_set_text, answer_alias, list_aliases, make_alias, alias_was_set, alias_set_text}
 use Rattle.console_core.specs.declared.ends.Next.{Next}
 use Rattle.console_core.specs.declared.ends.Next.TheVariants.{Goes}
 use Rattle.console_core.specs.declared.ends.Fault.{Fault}
@@ -42,7 +42,7 @@ module _ (s : State) (result : Result Next Fault) (start now : Option (List ℕ)
       let state : List ℕ → State = λ (b : List ℕ). record s { buffer = b } in
       let here : Replies (if fits_in value s.buffer then [] else joined (codes "overflow\n" ∷ [])) Goes result start now = rw fits at replies in
       elim (fits_in value s.buffer) as (λ t. buffer ≡ (if t then value ++ s.buffer else s.buffer) → Replies (if t then [] else joined (codes "overflow\n" ∷ [])) Goes result start now
-          → Follows (if t then says (record s { buffer = value ++ s.buffer }) Goes [] else says s Goes (joined (codes "overflow\n" ∷ []))) result (record s { buffer = buffer }) start now) [
+      → Follows (if t then says (record s { buffer = value ++ s.buffer }) Goes [] else says s Goes (joined (codes "overflow\n" ∷ []))) result (record s { buffer = buffer }) start now) [
         | true ↦ λ b r. follow (says (state (value ++ s.buffer)) Goes []) [] Goes result (state buffer) start now refl refl (ap state b) r
         | false ↦ λ b r. follow (says s Goes (joined (codes "overflow\n" ∷ []))) (joined (codes "overflow\n" ∷ [])) Goes result (state buffer) start now refl refl (ap state b) r
       ] buffer_is here

@@ -78,7 +78,15 @@ pub fn put_full<O: Sink>(out: &mut O, asked: u64) -> Result<Next, Fault>
     ensures write { OnErr result (Rose (O.sink_faults out.old) (O.sink_faults out.new)) }
     ensures faults { O.sink_faults out.old ≤ O.sink_faults out.new }
 {
-    reply(out, Next::Goes, &[Piece::Text(b"zone full: "), Piece::Number(asked), Piece::Text(b" bytes\n")])
+    reply(
+        out,
+        Next::Goes,
+        &[
+            Piece::Text(b"zone full: "),
+            Piece::Number(asked),
+            Piece::Text(b" bytes\n"),
+        ],
+    )
 }
 
 pub fn put_long_name<O: Sink>(out: &mut O) -> Result<Next, Fault>
@@ -107,7 +115,17 @@ pub fn put_cvar<'a, O: Sink>(out: &mut O, name: &'a [u8], value: &'a [u8]) -> Re
     ensures write { OnErr result (Rose (O.sink_faults out.old) (O.sink_faults out.new)) }
     ensures faults { O.sink_faults out.old ≤ O.sink_faults out.new }
 {
-    reply(out, Next::Goes, &[Piece::Text(b"\""), Piece::Text(name), Piece::Text(b"\" is \""), Piece::Text(value), Piece::Text(b"\"\n")])
+    reply(
+        out,
+        Next::Goes,
+        &[
+            Piece::Text(b"\""),
+            Piece::Text(name),
+            Piece::Text(b"\" is \""),
+            Piece::Text(value),
+            Piece::Text(b"\"\n"),
+        ],
+    )
 }
 
 // Shows a new block.

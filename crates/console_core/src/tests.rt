@@ -48,10 +48,7 @@ fn files(rt: &impl Abort, alloc: Global, disk: &Disk<'_>) -> Result<MemFolder, A
     files.push(zeros(alloc, b"maps/m0.bsp", 16)?)?;
     files.push(zeros(alloc, b"big", 999_391)?)?;
     files.push(zeros(alloc, b"bigger", 999_392)?)?;
-    Ok(MemFolder::create(
-        files,
-        Vec::from_slice(alloc, disk.fails)?,
-    ))
+    Ok(MemFolder::create(files, Vec::from_slice(alloc, disk.fails)?))
 }
 
 fn filled(rt: &impl Abort, alloc: Global, disk: &Disk<'_>) -> Result<Box<dyn Folder>, AllocError> {
@@ -113,6 +110,7 @@ fn run(
         };
         folders.push(folder)?;
     }
+    assert!(rt; names.len() < 100);
     assert_eq!(rt; folders.len(), names.len());
     Ok(quake_main(alloc, &names, folders, script, out))
 }
@@ -196,7 +194,8 @@ fn commands_are_answered(rt: HostRuntime) -> Result<(), Fail> {
 }
 
 // What a report says of the zone that was just started.
-const ZONE: &str = "zone 48 32 used\nzone 80 32 used\nzone 112 32 used\nzone 144 32 used\nzone 176 32 used\nzone 208 32 used\nzone 240 32 used\nzone 272 32 used\nzone 304 48864 free\nrover 304\n";
+const ZONE: &str =
+    "zone 48 32 used\nzone 80 32 used\nzone 112 32 used\nzone 144 32 used\nzone 176 32 used\nzone 208 32 used\nzone 240 32 used\nzone 272 32 used\nzone 304 48864 free\nrover 304\n";
 
 #[test]
 fn blocks_are_asked_for_and_reported(rt: HostRuntime) -> Result<(), Fail> {

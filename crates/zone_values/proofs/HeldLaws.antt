@@ -11,7 +11,8 @@ use Rattle.mem_model.specs.Apart.{NoneIs, AreApart, AreUsed}
 use Rattle.mem_model.proofs.ZoneLaws.{some-z_new, NoneIs-z_new, AreUsed-z_alloc, AreUsed-z_free, AreUsed-with_zone_bytes, AreUsed-same}
 use Rattle.zone_values.specs.Values.{value_at, put_value, replace_value}
 use Rattle.zone_values.specs.Held.{AreHeld, NoneAmong}
-use Rattle.zone_values.proofs.ValueLaws.{some_bytes, NoneIs-put_value, zone_bytes-put_value, some-put_new, NoneIs-replace_value, zone_bytes-replace_value, some-replace_new}
+pub use Rattle.zone_values.proofs.ValueLaws.{some_bytes}
+use Rattle.zone_values.proofs.ValueLaws.{NoneIs-put_value, zone_bytes-put_value, some-put_new, NoneIs-replace_value, zone_bytes-replace_value, some-replace_new}
 
 -- a used block that keeps its bytes stays used
 pub some-kept : (m n : Memory) (place : ℕ) → ((bytes : List ℕ) → zone_bytes m place ≡ Some bytes → zone_bytes n place ≡ Some bytes) → IsSome (zone_bytes m place) → IsSome (zone_bytes n place)

@@ -14,7 +14,9 @@ use crate::console::Console;
 use crate::console::values::insert;
 use crate::ends::{Fault, Next};
 use crate::load::{LoadError, Loaded, load};
-use crate::replies::{put_bad_name, put_bad_number, put_block, put_echo, put_executed, put_short, reply};
+use crate::replies::{
+    put_bad_name, put_bad_number, put_block, put_echo, put_executed, put_short, reply,
+};
 use base_fields::{GameName, before_zero, decimal, game_name};
 use block_report::report;
 use cmd_buffer::Words;

@@ -127,7 +127,11 @@ impl<M: Store, F: Folder> Console<M, F> {
     }
 
     // The first word is no command: it may be an alias or a cvar.
-    pub(super) fn run_name<O: Sink>(&mut self, words: &Words<'_>, out: &mut O) -> Result<Next, Fault>
+    pub(super) fn run_name<O: Sink>(
+        &mut self,
+        words: &Words<'_>,
+        out: &mut O,
+    ) -> Result<Next, Fault>
         requires holds { Holds (state_of M.state self.old) }
         requires short { AreShort words.now }
         ensures told { IfSome (told_files F.files self.old.paths) (λ files. Follows (by_name (state_of M.state self.old) words.now) result (state_of M.state self.new) (O.got out.old) (O.got out.new)) }

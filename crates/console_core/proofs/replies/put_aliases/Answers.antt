@@ -1,4 +1,4 @@
-use Rattle.std.proofs.Common.{◌++◌, [], refl, sym, arith}
+use Rattle.std.proofs.Common.{◌++◌, [], refl, arith}
 use Rattle.std.specs.Prelude.{codes}
 use Rattle.outside_io.proofs.Puts.{nothing_put, one_put, all_put, front_put}
 use Rattle.reply_pieces.proofs.Holding.{next_held, held_front}

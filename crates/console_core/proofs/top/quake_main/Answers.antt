@@ -1,4 +1,3 @@
-use Rattle.std.proofs.Common.{map}
 use Rattle.console_core.proofs.Completing.{completes}
 use Rattle.console_core.proofs.top.quake_main.Goals as goal
 

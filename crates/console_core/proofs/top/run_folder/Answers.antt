@@ -1,4 +1,3 @@
-use Rattle.std.proofs.Common.{sym, ◌∙◌}
 use Rattle.console_core.proofs.top.run_folder.Goals as goal
 
 pub returns-in-Ok-start-clause-too_small : goal.returns-in-Ok-start-clause-too_small

@@ -1,9 +1,9 @@
 use Rattle.std.proofs.Common.{sym, ◌∙◌}
 use Rattle.console_core.specs.Mounts.{told_files}
-use Rattle.console_core.specs.Commands.{answer_alias, list_aliases, make_alias}
+use Rattle.console_core.specs.Commands.{answer_alias, list_aliases}
 use Rattle.console_core.specs.Sessions.{state_of}
 use Rattle.console_core.proofs.Following.{of_files, same_did}
-use Rattle.console_core.proofs.Valuing.{alias_alone, alias_with_words}
+use Rattle.console_core.proofs.Valuing.{alias_alone}
 use Rattle.console_core.proofs.console.Console.alias.Goals as goal
 
 pub returns-then-count-eq1-clause-told : goal.returns-then-count-eq1-clause-told

@@ -1,7 +1,6 @@
 use Rattle.std.proofs.Common.{ap, ◌∙◌}
 use Rattle.mem_model.specs.Memory.{Memory}
 use Rattle.mem_model.proofs.Untouched.{zone-low_free}
-use Rattle.console_core.specs.States.{State}
 use Rattle.console_core.specs.Sessions.{state_of}
 use Rattle.console_core.proofs.Holding.{holds_memory, holds_buffer}
 use Rattle.console_core.proofs.console.Console.insert_loaded.Goals as goal

@@ -1,4 +1,3 @@
-use Rattle.base_fields.specs.Names.{base_of}
 use Rattle.mem_model.specs.Told.{room_answer}
 use Rattle.console_core.specs.Sessions.{state_of}
 use Rattle.console_core.proofs.Holding.{holds_memory, zone_after_low}

@@ -1,4 +1,4 @@
-use Rattle.std.proofs.Common.{sym, subst, true, IfSome}
+use Rattle.std.proofs.Common.{sym, subst, true}
 use Rattle.console_core.specs.Mounts.{told_files}
 use Rattle.console_core.specs.Runs.{finish, frame, Runs}
 use Rattle.console_core.specs.Sessions.{state_of}
@@ -12,5 +12,5 @@ returns-clause-told g c =
     let state = state_of g.M.Store.state in
     let before : Console g.row.M.Denot g.row.F.Denot = c.self.inside.console in
     let runs = of_files (told_files g.F.Folder.files before.paths) c.run_frame.ensures.told (λ files runs.
-        subst (λ r. Runs (frame true files 4096 (state before)) r (state c.run_frame.new.self) (g.O.Sink.got c.args.out.now) (g.O.Sink.got c.run_frame.new.out)) (sym c.end_of-end.ensures.told) runs) in
+    subst (λ r. Runs (frame true files 4096 (state before)) r (state c.run_frame.new.self) (g.O.Sink.got c.args.out.now) (g.O.Sink.got c.run_frame.new.out)) (sym c.end_of-end.ensures.told) runs) in
     rw c.self.view_is at runs
