@@ -1,6 +1,5 @@
 -- What setting an alias of a new name does to the aliases and to the blocks of others.
-use Rattle.std.proofs.Common.{◌≡◌, ◌≢◌, ◌==◌, ℕ, suc, ◌+◌, ◌-◌, ◌^◌, ◌<◌, ◌≤◌, List, [], ◌∷◌, ◌++◌, length, take, drop, replicate, Bool, true, false, cond, eqb, Option, Some, None, Result, Ok, Err, refl, sym, ap, ◌∙◌, subst, arith, append_assoc, length-append, nat_eq}
-use Rattle.std.specs.Prelude.{IsSome}
+use Rattle.std.proofs.Common.{◌≡◌, ◌≢◌, ℕ, suc, ◌-◌, ◌^◌, ◌<◌, ◌≤◌, List, [], ◌∷◌, ◌++◌, length, take, drop, replicate, Bool, cond, Option, Some, None, Result, Ok, Err, refl, sym, ap, ◌∙◌, subst, arith, append_assoc, length-append}
 use Rattle.std.proofs.lemmas.List.{length-replicate, take_at}
 use Rattle.std.proofs.lemmas.Bool.{ne_eqb}
 use Rattle.base_fields.specs.Fields.{u32_in, u32_bytes}
@@ -9,19 +8,19 @@ use Rattle.base_fields.proofs.FieldLaws.{u32_in-written}
 use Rattle.base_fields.proofs.TextLaws.{until_zero_of_ended}
 use Rattle.mem_model.specs.Memory.{Memory}
 use Rattle.mem_model.specs.Laid.{Laid, IsText}
-use Rattle.mem_model.specs.Apart.{NoneIs, AreUsed}
+use Rattle.mem_model.specs.Apart.{NoneIs}
 use Rattle.mem_model.specs.Hunk.{over}
 use Rattle.mem_model.specs.Zone.{zone_bytes, with_zone_bytes}
 use Rattle.mem_model.specs.Operations.{z_alloc, z_free}
 use Rattle.mem_model.proofs.Laying.{length-over}
-use Rattle.mem_model.proofs.ZoneLaying.{Laid-z_alloc, Laid-z_free, Laid-with_zone_bytes}
-use Rattle.mem_model.proofs.ZoneLaws.{zone_bytes-z_alloc, zone_bytes-new, zone_place_apart, zone_bytes-z_free, zone_bytes-written, zone_bytes-elsewhere, zone_bytes-small, some-with_zone_bytes, NoneIs-z_new, AreUsed-z_alloc}
+use Rattle.mem_model.proofs.ZoneLaying.{Laid-z_alloc}
+use Rattle.mem_model.proofs.ZoneLaws.{zone_bytes-z_alloc, zone_bytes-new, zone_place_apart, zone_bytes-z_free, zone_bytes-written, zone_bytes-elsewhere, zone_bytes-small, some-with_zone_bytes, NoneIs-z_new}
 use Rattle.zone_values.specs.Held.{AreHeld, OthersStay, KeepsAt}
 use Rattle.zone_values.specs.Values.{put_value}
 use Rattle.zone_values.proofs.Writing.{over_front, with_zone_bytes-over}
 use Rattle.zone_values.proofs.ValueLaws.{Laid-put_value, put_apart, NoneIs-put_value, zone_bytes-put_value, zone_bytes-put_new, some-put_new}
 use Rattle.zone_values.proofs.HeldLaws.{some_bytes, AreUsed-kept}
-use Rattle.cmd_buffer.specs.Aliases.{Alias, place_of, number_of, next_in, name_in, value_in, spelled, IsRecord, IsChain, HoldsAliases, aliases_of, alias_places, AliasSet, added, record_added, record_written}
+use Rattle.cmd_buffer.specs.Aliases.{Alias, place_of, number_of, next_in, name_in, value_in, spelled, IsRecord, IsChain, HoldsAliases, aliases_of, alias_places, added, record_added, record_written}
 use Rattle.cmd_buffer.specs.AliasCalls.{given_back}
 use Rattle.cmd_buffer.proofs.AliasLaws.{chain_still, aliases_are, aliases_still}
 use Rattle.cmd_buffer.proofs.AliasReads.{newest_used}

@@ -1,13 +1,13 @@
 -- What setting an alias of an old name does to the aliases and to the blocks of others.
-use Rattle.std.proofs.Common.{◌≡◌, ◌≢◌, ℕ, ◌+◌, ◌^◌, ◌<◌, ◌≤◌, List, [], ◌∷◌, ◌++◌, length, take, drop, Bool, true, false, cond, if◌then◌else◌, Option, Some, None, Result, Ok, Err, refl, sym, ap, ◌∙◌, subst, arith, find, bytes_eq}
+use Rattle.std.proofs.Common.{◌≡◌, ◌≢◌, ℕ, ◌^◌, ◌<◌, ◌≤◌, List, [], ◌∷◌, ◌++◌, length, Bool, true, false, cond, if◌then◌else◌, Option, Some, Result, Ok, Err, refl, sym, ap, ◌∙◌, subst, arith, find, bytes_eq}
 use Rattle.std.specs.Prelude.{IsSome}
 use Rattle.std.specs.Option.{unwrap_or}
-use Rattle.base_fields.specs.Fields.{u32_bytes, with_field, field}
+use Rattle.base_fields.specs.Fields.{u32_bytes, with_field}
 use Rattle.base_fields.specs.Texts.{until_zero}
 use Rattle.base_fields.proofs.FieldLaws.{length-with_field, u32_in-put, u32_in-before_put, field-before_put}
 use Rattle.mem_model.specs.Memory.{Memory}
 use Rattle.mem_model.specs.Laid.{Laid}
-use Rattle.mem_model.specs.Apart.{NoneIs, AreUsed, AreApart}
+use Rattle.mem_model.specs.Apart.{NoneIs, AreApart}
 use Rattle.mem_model.specs.Zone.{zone_bytes, with_zone_bytes}
 use Rattle.mem_model.proofs.ZoneLaws.{zone_bytes-written, zone_bytes-elsewhere, zone_bytes-small, AreUsed-with_zone_bytes}
 use Rattle.mem_model.proofs.Untouched.{zone_bytes-same}
@@ -15,7 +15,7 @@ use Rattle.zone_values.specs.Held.{AreHeld, KeepsAt}
 use Rattle.zone_values.specs.Values.{replace_value}
 use Rattle.zone_values.proofs.ValueLaws.{Laid-replace_value, replace_apart, zone_bytes-replace_value, some-replace_new, replace_value-refusal}
 use Rattle.zone_values.proofs.HeldLaws.{some_bytes, AreHeld-replace_value}
-use Rattle.cmd_buffer.specs.Aliases.{Alias, place_of, next_in, name_in, value_in, IsRecord, IsChain, HoldsAliases, aliases_of, alias_places, AliasSet, value_moved, value_reset, changed}
+use Rattle.cmd_buffer.specs.Aliases.{Alias, place_of, IsRecord, IsChain, HoldsAliases, aliases_of, alias_places, value_moved, value_reset, changed}
 use Rattle.cmd_buffer.proofs.AliasLaws.{chain_still}
 use Rattle.cmd_buffer.proofs.AliasAdding.{Stays, stays_are, stays_kept}
 

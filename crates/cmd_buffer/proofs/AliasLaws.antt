@@ -1,13 +1,11 @@
 -- Laws of the aliases, for those who keep them.
-use Rattle.std.proofs.Common.{◌≡◌, ℕ, zero, suc, ◌≤◌, List, [], ◌∷◌, length, Option, Some, None, refl, sym, ap, ◌∙◌, arith, subst}
-use Rattle.std.specs.List.{AllByRecursion}
+use Rattle.std.proofs.Common.{◌≡◌, ℕ, zero, suc, ◌≤◌, List, [], ◌∷◌, length, Option, None, refl, sym, ap, ◌∙◌, arith, subst}
 use Rattle.mem_model.specs.Memory.{Memory}
-use Rattle.mem_model.specs.Zone.{zone_bytes}
 use Rattle.mem_model.specs.Apart.{AreUsed}
 use Rattle.mem_model.proofs.ZoneApart.{places-few}
 use Rattle.zone_values.specs.Held.{AreHeld, KeepsAt}
 use Rattle.zone_values.proofs.HeldLaws.{some-kept}
-use Rattle.cmd_buffer.specs.Aliases.{Alias, alias_at, alias_and, next_in, name_in, value_in, IsRecord, IsChain, HoldsAliases, followed, aliases_of, alias_places}
+use Rattle.cmd_buffer.specs.Aliases.{Alias, alias_at, alias_and, next_in, value_in, IsRecord, IsChain, HoldsAliases, followed, aliases_of, alias_places}
 
 pub chain_still : (m n : Memory) (first : Option ℕ) (aliases : List Alias) → KeepsAt m n (alias_places aliases) → IsChain m first aliases → IsChain n first aliases
 chain_still m n first [] keeps chain = chain
