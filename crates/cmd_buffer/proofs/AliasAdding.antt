@@ -109,11 +109,11 @@ module _ (m : Memory) (newest : Option ℕ) (name value : List ℕ) (place : ℕ
   apart1 other bytes there = zone_place_apart m 40 place other bytes laid given there
 
   -- the value was refused, or the store ran out of memory: the record is freed again
-  pub freed_again : Stays m (z_free m2 place).after newest newest
-  freed_again = stays_kept m _ newest (λ other bytes there. zone_bytes-z_free m2 place other bytes laid2 (apart1 other bytes there) (kept2 other bytes (kept1 other bytes there))) h
+  pub kept_again : (other : ℕ) (bytes : List ℕ) → zone_bytes m other ≡ Some bytes → zone_bytes (z_free m2 place).after other ≡ Some bytes
+  kept_again other bytes there = zone_bytes-z_free m2 place other bytes laid2 (apart1 other bytes there) (kept2 other bytes (kept1 other bytes there))
 
-  pub freed_first : Stays m (z_free m1 place).after newest newest
-  freed_first = stays_kept m _ newest (λ other bytes there. zone_bytes-z_free m1 place other bytes laid1 (apart1 other bytes there) (kept1 other bytes there)) h
+  pub kept_first : (other : ℕ) (bytes : List ℕ) → zone_bytes m other ≡ Some bytes → zone_bytes (z_free m1 place).after other ≡ Some bytes
+  kept_first other bytes there = zone_bytes-z_free m1 place other bytes laid1 (apart1 other bytes there) (kept1 other bytes there)
 
   -- the value has its own block, and the record is written
   module _ (v : ℕ) (text : IsText name) (fits : length name ≤ 31) (put : (put_value m1 value).answer ≡ Ok v) where
@@ -184,7 +184,7 @@ added_by : (m : Memory) (newest : Option ℕ) (name value : List ℕ) (place : �
     (put_value (z_alloc m 40).after value).answer ≡ answer →
     Stays m (record_written newest name place (put_value (z_alloc m 40).after value).after answer).after newest (record_written newest name place (put_value (z_alloc m 40).after value).after answer).newest
 added_by m newest name value place laid h text fits given (Ok v) put = became_newest m newest name value place laid h given v text fits put
-added_by m newest name value place laid h text fits given (Err asked) put = freed_again m newest name value place laid h given
+added_by m newest name value place laid h text fits given (Err asked) put = stays_kept m _ newest (kept_again m newest name value place laid h given) h
 
 added_first : (m : Memory) (newest : Option ℕ) (name value : List ℕ) (laid : Laid m) (h : HoldsAliases m newest) (text : IsText name) (fits : length name ≤ 31) (answer : Result ℕ ℕ) → (z_alloc m 40).answer ≡ answer →
     Stays m (record_added newest name value (z_alloc m 40).after answer).after newest (record_added newest name value (z_alloc m 40).after answer).newest
@@ -199,5 +199,5 @@ stays_added m newest name value laid h text fits = added_first m newest name val
 pub stays_given_back : (m : Memory) (newest : Option ℕ) → Laid m → HoldsAliases m newest → Stays m (given_back (z_alloc m 40).after (z_alloc m 40).answer) newest newest
 stays_given_back m newest laid h = by_answer (z_alloc m 40).answer refl where
   by_answer : (answer : Result ℕ ℕ) → (z_alloc m 40).answer ≡ answer → Stays m (given_back (z_alloc m 40).after answer) newest newest
-  by_answer (Ok place) given = freed_first m newest [] [] place laid h given
+  by_answer (Ok place) given = stays_kept m _ newest (kept_first m newest [] [] place laid h given) h
   by_answer (Err asked) given = stays_kept m (z_alloc m 40).after newest (λ place bytes there. zone_bytes-z_alloc m 40 place bytes laid there) h
