@@ -1,29 +1,29 @@
 -- What setting an alias of a new name does to the aliases and to the blocks of others.
-use Rattle.std.proofs.Common.{◌≡◌, ◌≢◌, ◌==◌, ℕ, suc, ◌+◌, ◌-◌, ◌^◌, ◌<◌, ◌≤◌, List, [], ◌∷◌, ◌++◌, length, take, drop, replicate, Bool, true, false, cond, eqb, Option, Some, None, Result, Ok, Err, refl, sym, ap, ◌∙◌, subst, arith, append_assoc, length-append, nat_eq}
-use Rattle.std.specs.Prelude.{IsSome}
+use Rattle.std.proofs.Common.{◌≡◌, ◌≢◌, ℕ, suc, ◌-◌, ◌^◌, ◌<◌, ◌≤◌, List, [], ◌∷◌, ◌++◌, length, map, take, drop, replicate, Bool, cond, Option, Some, None, Result, Ok, Err, refl, sym, ap, ◌∙◌, subst, arith, append_assoc, length-append}
 use Rattle.std.proofs.lemmas.List.{length-replicate, take_at}
 use Rattle.std.proofs.lemmas.Bool.{ne_eqb}
+use Rattle.std.specs.Option.{option_map, unwrap_or}
 use Rattle.base_fields.specs.Fields.{u32_in, u32_bytes}
 use Rattle.base_fields.specs.Texts.{until_zero}
 use Rattle.base_fields.proofs.FieldLaws.{u32_in-written}
 use Rattle.base_fields.proofs.TextLaws.{until_zero_of_ended}
 use Rattle.mem_model.specs.Memory.{Memory}
 use Rattle.mem_model.specs.Laid.{Laid, IsText}
-use Rattle.mem_model.specs.Apart.{NoneIs, AreUsed}
+use Rattle.mem_model.specs.Apart.{NoneIs}
 use Rattle.mem_model.specs.Hunk.{over}
 use Rattle.mem_model.specs.Zone.{zone_bytes, with_zone_bytes}
 use Rattle.mem_model.specs.Operations.{z_alloc, z_free}
 use Rattle.mem_model.proofs.Laying.{length-over}
-use Rattle.mem_model.proofs.ZoneLaying.{Laid-z_alloc, Laid-z_free, Laid-with_zone_bytes}
-use Rattle.mem_model.proofs.ZoneLaws.{zone_bytes-z_alloc, zone_bytes-new, zone_place_apart, zone_bytes-z_free, zone_bytes-written, zone_bytes-elsewhere, zone_bytes-small, some-with_zone_bytes, NoneIs-z_new, AreUsed-z_alloc}
+use Rattle.mem_model.proofs.ZoneLaying.{Laid-z_alloc}
+use Rattle.mem_model.proofs.ZoneLaws.{zone_bytes-z_alloc, zone_bytes-new, zone_place_apart, zone_bytes-z_free, zone_bytes-written, zone_bytes-elsewhere, zone_bytes-small, some-with_zone_bytes, NoneIs-z_new}
 use Rattle.zone_values.specs.Held.{AreHeld, OthersStay, KeepsAt}
-use Rattle.zone_values.specs.Values.{put_value}
+use Rattle.zone_values.specs.Values.{put_value, value_at}
 use Rattle.zone_values.proofs.Writing.{over_front, with_zone_bytes-over}
-use Rattle.zone_values.proofs.ValueLaws.{Laid-put_value, put_apart, NoneIs-put_value, zone_bytes-put_value, zone_bytes-put_new, some-put_new}
+use Rattle.zone_values.proofs.ValueLaws.{Laid-put_value, put_apart, NoneIs-put_value, zone_bytes-put_value, zone_bytes-put_new, some-put_new, value_at-put_value}
 use Rattle.zone_values.proofs.HeldLaws.{some_bytes, AreUsed-kept}
-use Rattle.cmd_buffer.specs.Aliases.{Alias, place_of, number_of, next_in, name_in, value_in, spelled, IsRecord, IsChain, HoldsAliases, aliases_of, alias_places, AliasSet, added, record_added, record_written}
+use Rattle.cmd_buffer.specs.Aliases.{Alias, place_of, number_of, next_in, name_in, value_in, spelled, IsRecord, IsChain, HoldsAliases, aliases_of, alias_places, AliasText, text_of, alias_texts, added, record_added, record_written}
 use Rattle.cmd_buffer.specs.AliasCalls.{given_back}
-use Rattle.cmd_buffer.proofs.AliasLaws.{chain_still, aliases_are, aliases_still}
+use Rattle.cmd_buffer.proofs.AliasLaws.{chain_still, aliases_are, aliases_still, texts_kept}
 use Rattle.cmd_buffer.proofs.AliasReads.{newest_used}
 
 -- What a setting leaves: the aliases are held, and the blocks of others stay.
@@ -109,11 +109,11 @@ module _ (m : Memory) (newest : Option ℕ) (name value : List ℕ) (place : ℕ
   apart1 other bytes there = zone_place_apart m 40 place other bytes laid given there
 
   -- the value was refused, or the store ran out of memory: the record is freed again
-  pub freed_again : Stays m (z_free m2 place).after newest newest
-  freed_again = stays_kept m _ newest (λ other bytes there. zone_bytes-z_free m2 place other bytes laid2 (apart1 other bytes there) (kept2 other bytes (kept1 other bytes there))) h
+  pub kept_again : (other : ℕ) (bytes : List ℕ) → zone_bytes m other ≡ Some bytes → zone_bytes (z_free m2 place).after other ≡ Some bytes
+  kept_again other bytes there = zone_bytes-z_free m2 place other bytes laid2 (apart1 other bytes there) (kept2 other bytes (kept1 other bytes there))
 
-  pub freed_first : Stays m (z_free m1 place).after newest newest
-  freed_first = stays_kept m _ newest (λ other bytes there. zone_bytes-z_free m1 place other bytes laid1 (apart1 other bytes there) (kept1 other bytes there)) h
+  pub kept_first : (other : ℕ) (bytes : List ℕ) → zone_bytes m other ≡ Some bytes → zone_bytes (z_free m1 place).after other ≡ Some bytes
+  kept_first other bytes there = zone_bytes-z_free m1 place other bytes laid1 (apart1 other bytes there) (kept1 other bytes there)
 
   -- the value has its own block, and the record is written
   module _ (v : ℕ) (text : IsText name) (fits : length name ≤ 31) (put : (put_value m1 value).answer ≡ Ok v) where
@@ -151,25 +151,40 @@ module _ (m : Memory) (newest : Option ℕ) (name value : List ℕ) (place : ℕ
     apart2 : (other : ℕ) (bytes : List ℕ) → zone_bytes m1 other ≡ Some bytes → other ≢ v
     apart2 other bytes there = put_apart m1 value bytes v other laid1 put there
 
-    pub became_newest : Stays m (with_zone_bytes m2 place (spelled newest name v)) newest (Some place)
-    became_newest =
-        let aliases = aliases_of m newest in
-        let places = alias_places aliases in
+    chain3 : IsChain m3 (Some place) (new ∷ aliases_of m newest)
+    chain3 = (refl, (newest, record_is, chain_still m m3 newest (aliases_of m newest) (keeps_each m m3 (alias_places (aliases_of m newest)) kept3) h.chain))
+
+    held3 : AreHeld m3 (alias_places (new ∷ aliases_of m newest))
+    held3 =
+        let places = alias_places (aliases_of m newest) in
         let zeros = zone_bytes-new m 40 place laid given in
         let used1 = AreUsed-kept m m1 places kept1 h.held.used in
-        stays_are m m3 newest (Some place) (new ∷ aliases)
-        (refl, (newest, record_is, chain_still m m3 newest aliases (keeps_each m m3 places kept3) h.chain))
-        (record {
+        record {
           used = (rw record_is.there refl, (some-with_zone_bytes m2 place v (spelled newest name v) (some-put_new m1 value v laid1 put), AreUsed-kept m m3 places kept3 h.held.used));
           apart = ((λ same. apart2 place _ zeros.2 (sym same), NoneIs-z_new m 40 place places laid given h.held.used), (NoneIs-put_value m1 value v places laid1 put used1, h.held.apart));
-        })
+        }
+
+    pub became_newest : Stays m (with_zone_bytes m2 place (spelled newest name v)) newest (Some place)
+    became_newest =
+        stays_are m m3 newest (Some place) (new ∷ aliases_of m newest) chain3 held3
         (λ other bytes none there. ((λ same. apart1 other bytes there (sym same), (λ same. apart2 other bytes (kept1 other bytes there) (sym same), none)), kept3 other bytes there))
+
+    -- its text is the newest
+    pub newest_texts : IsText value → alias_texts (with_zone_bytes m2 place (spelled newest name v)) (Some place) ≡ record { name = name; value = value } ∷ alias_texts m newest
+    unfolding value_at
+    newest_texts value_text =
+        let zeros = zone_bytes-new m 40 place laid given in
+        let there : value_at m3 v ≡ Some value =
+        ap (option_map until_zero) (zone_bytes-elsewhere m2 place v (spelled newest name v) (λ same. apart2 place _ zeros.2 (sym same))) ∙ value_at-put_value m1 value v laid1 value_text put in
+        ap (map (text_of m3)) (aliases_are m3 (Some place) (new ∷ aliases_of m newest) chain3 held3).1
+        ∙ ap (λ (o : Option (List ℕ)). record { name = name; value = unwrap_or o [] } ∷ map (text_of m3) (aliases_of m newest)) there
+        ∙ ap (λ (texts : List AliasText). record { name = name; value = value } ∷ texts) (texts_kept m m3 (aliases_of m newest) (keeps_each m m3 (alias_places (aliases_of m newest)) kept3) h.held.used)
 
 added_by : (m : Memory) (newest : Option ℕ) (name value : List ℕ) (place : ℕ) (laid : Laid m) (h : HoldsAliases m newest) (text : IsText name) (fits : length name ≤ 31) (given : (z_alloc m 40).answer ≡ Ok place) (answer : Result ℕ ℕ) →
     (put_value (z_alloc m 40).after value).answer ≡ answer →
     Stays m (record_written newest name place (put_value (z_alloc m 40).after value).after answer).after newest (record_written newest name place (put_value (z_alloc m 40).after value).after answer).newest
 added_by m newest name value place laid h text fits given (Ok v) put = became_newest m newest name value place laid h given v text fits put
-added_by m newest name value place laid h text fits given (Err asked) put = freed_again m newest name value place laid h given
+added_by m newest name value place laid h text fits given (Err asked) put = stays_kept m _ newest (kept_again m newest name value place laid h given) h
 
 added_first : (m : Memory) (newest : Option ℕ) (name value : List ℕ) (laid : Laid m) (h : HoldsAliases m newest) (text : IsText name) (fits : length name ≤ 31) (answer : Result ℕ ℕ) → (z_alloc m 40).answer ≡ answer →
     Stays m (record_added newest name value (z_alloc m 40).after answer).after newest (record_added newest name value (z_alloc m 40).after answer).newest
@@ -184,5 +199,5 @@ stays_added m newest name value laid h text fits = added_first m newest name val
 pub stays_given_back : (m : Memory) (newest : Option ℕ) → Laid m → HoldsAliases m newest → Stays m (given_back (z_alloc m 40).after (z_alloc m 40).answer) newest newest
 stays_given_back m newest laid h = by_answer (z_alloc m 40).answer refl where
   by_answer : (answer : Result ℕ ℕ) → (z_alloc m 40).answer ≡ answer → Stays m (given_back (z_alloc m 40).after answer) newest newest
-  by_answer (Ok place) given = freed_first m newest [] [] place laid h given
+  by_answer (Ok place) given = stays_kept m _ newest (kept_first m newest [] [] place laid h given) h
   by_answer (Err asked) given = stays_kept m (z_alloc m 40).after newest (λ place bytes there. zone_bytes-z_alloc m 40 place bytes laid there) h

@@ -1,11 +1,11 @@
 -- What setting an alias gives, from what the calls of the store gave.
-use Rattle.std.proofs.Common.{◌≡◌, ℕ, ◌+◌, ◌<◌, ◌≤◌, List, [], Bool, false, cond, nat_lt, find, bytes_eq, Option, Some, None, Result, Ok, Err, length, inl, inr, refl, sym, ap, ◌∙◌, subst, replicate, arith, le-ltb, lt-ltb}
+use Rattle.std.proofs.Common.{◌≡◌, ℕ, ◌<◌, ◌≤◌, List, [], Bool, false, cond, nat_lt, find, bytes_eq, Option, Some, None, Result, Ok, Err, length, inl, inr, refl, sym, ap, ◌∙◌, subst, replicate, arith, le-ltb, lt-ltb}
 use Rattle.std.specs.Result.{IsErr, IsErrAnd}
 use Rattle.std.specs.Option.{unwrap_or}
 use Rattle.std.proofs.lemmas.List.{length-replicate}
 use Rattle.base_fields.specs.Fields.{u32_bytes, with_field}
 use Rattle.mem_model.specs.Memory.{Memory}
-use Rattle.mem_model.specs.Laid.{Laid, IsText}
+use Rattle.mem_model.specs.Laid.{Laid}
 use Rattle.mem_model.specs.Hunk.{over}
 use Rattle.mem_model.specs.Zone.{zone_bytes, with_zone_bytes}
 use Rattle.mem_model.specs.Answer.{Answers, Gives}
@@ -17,11 +17,11 @@ use Rattle.mem_model.proofs.ZoneLaws.{zone_bytes-new}
 use Rattle.zone_values.specs.Values.{put_value, replace_value}
 use Rattle.zone_values.proofs.Writing.{with_zone_bytes-over}
 use Rattle.zone_values.proofs.ValueLaws.{zone_bytes-put_value, zone_bytes-replace_value}
-use Rattle.cmd_buffer.specs.Aliases.{Alias, AliasRefusal, AliasRefusal.LongName, AliasRefusal.Full, AliasSet, HoldsAliases, aliases_of, spelled, added, record_added, record_written, refused, changed, value_reset, set_named, set_alias}
+use Rattle.cmd_buffer.specs.Aliases.{Alias, AliasRefusal, AliasRefusal.LongName, AliasSet, HoldsAliases, aliases_of, spelled, added, record_added, record_written, refused, changed, value_reset, set_named, set_alias}
 use Rattle.cmd_buffer.specs.AliasCalls.{set_told, IsSet, RanOutSetting, given_back, GivesSet}
 use Rattle.cmd_buffer.specs.declared.aliases.AliasError.{AliasError}
 use Rattle.cmd_buffer.specs.declared.aliases.AliasError.TheVariants as alias_error
-use Rattle.cmd_buffer.proofs.AliasAdding.{Stays, stays_kept, stays_added, stays_given_back}
+use Rattle.cmd_buffer.proofs.AliasAdding.{Stays, stays_kept, stays_given_back}
 use Rattle.cmd_buffer.proofs.AliasChanging.{IsFound}
 
 -- what was set, where its parts are these

@@ -1,22 +1,22 @@
 -- What setting an alias of an old name does to the aliases and to the blocks of others.
-use Rattle.std.proofs.Common.{◌≡◌, ◌≢◌, ℕ, ◌+◌, ◌^◌, ◌<◌, ◌≤◌, List, [], ◌∷◌, ◌++◌, length, take, drop, Bool, true, false, cond, if◌then◌else◌, Option, Some, None, Result, Ok, Err, refl, sym, ap, ◌∙◌, subst, arith, find, bytes_eq}
+use Rattle.std.proofs.Common.{◌≡◌, ◌≢◌, ℕ, ◌^◌, ◌<◌, ◌≤◌, List, [], ◌∷◌, ◌++◌, length, map, Bool, true, false, cond, if◌then◌else◌, Option, Some, Result, Ok, Err, refl, sym, ap, ◌∙◌, subst, arith, find, bytes_eq}
 use Rattle.std.specs.Prelude.{IsSome}
-use Rattle.std.specs.Option.{unwrap_or}
-use Rattle.base_fields.specs.Fields.{u32_bytes, with_field, field}
+use Rattle.std.specs.Option.{option_map, unwrap_or}
+use Rattle.base_fields.specs.Fields.{u32_bytes, with_field}
 use Rattle.base_fields.specs.Texts.{until_zero}
 use Rattle.base_fields.proofs.FieldLaws.{length-with_field, u32_in-put, u32_in-before_put, field-before_put}
 use Rattle.mem_model.specs.Memory.{Memory}
-use Rattle.mem_model.specs.Laid.{Laid}
-use Rattle.mem_model.specs.Apart.{NoneIs, AreUsed, AreApart}
+use Rattle.mem_model.specs.Laid.{Laid, IsText}
+use Rattle.mem_model.specs.Apart.{NoneIs, AreApart}
 use Rattle.mem_model.specs.Zone.{zone_bytes, with_zone_bytes}
 use Rattle.mem_model.proofs.ZoneLaws.{zone_bytes-written, zone_bytes-elsewhere, zone_bytes-small, AreUsed-with_zone_bytes}
 use Rattle.mem_model.proofs.Untouched.{zone_bytes-same}
 use Rattle.zone_values.specs.Held.{AreHeld, KeepsAt}
-use Rattle.zone_values.specs.Values.{replace_value}
-use Rattle.zone_values.proofs.ValueLaws.{Laid-replace_value, replace_apart, zone_bytes-replace_value, some-replace_new, replace_value-refusal}
-use Rattle.zone_values.proofs.HeldLaws.{some_bytes, AreHeld-replace_value}
-use Rattle.cmd_buffer.specs.Aliases.{Alias, place_of, next_in, name_in, value_in, IsRecord, IsChain, HoldsAliases, aliases_of, alias_places, AliasSet, value_moved, value_reset, changed}
-use Rattle.cmd_buffer.proofs.AliasLaws.{chain_still}
+use Rattle.zone_values.specs.Values.{replace_value, value_at}
+use Rattle.zone_values.proofs.ValueLaws.{Laid-replace_value, replace_apart, zone_bytes-replace_value, some-replace_new, value_at-replace_value, replace_value-refusal}
+use Rattle.zone_values.proofs.HeldLaws.{some_bytes, value_at-kept, AreHeld-replace_value}
+use Rattle.cmd_buffer.specs.Aliases.{Alias, place_of, IsRecord, IsChain, HoldsAliases, aliases_of, alias_places, AliasText, text_of, alias_texts, with_value, value_moved, value_reset, changed}
+use Rattle.cmd_buffer.proofs.AliasLaws.{chain_still, aliases_are, texts_kept}
 use Rattle.cmd_buffer.proofs.AliasAdding.{Stays, stays_are, stays_kept}
 
 -- the aliases with another place for the value of the first of exactly this name
@@ -140,6 +140,28 @@ module _ (m n : Memory) (name : List ℕ) (b : Alias) (value : ℕ) (low : value
   chain_moved first [] apart is chain = absurd (cc)
   chain_moved first (a ∷ older) apart is chain = chain_first first a older (bytes_eq a.name name) apart chain (λ next found rest. chain_moved next older apart.1.1 found rest) is
 
+  -- the texts with the value that is at its new place
+  texts_first : (text : List ℕ) (a : Alias) (older : List Alias) (t : Bool) → bytes_eq a.name name ≡ t → value_at n value ≡ Some text → AreHeld m (alias_places (a ∷ older)) →
+      (find (λ (x : Alias). bytes_eq x.name name) older ≡ Some b → map (text_of n) (moved name value older) ≡ with_value (map (text_of m) older) name text) →
+      cond t (Some a) (find (λ (x : Alias). bytes_eq x.name name) older) ≡ Some b →
+      map (text_of n) (cond t (record a { value_place = value } ∷ older) (a ∷ moved name value older)) ≡ cond t (record { name = a.name; value = text } ∷ map (text_of m) older) (text_of m a ∷ with_value (map (text_of m) older) name text)
+  texts_first text a older true e there held later is =
+      let same : b ≡ a = cc in
+      let keeps = keeps_none (alias_places older)
+      (subst (λ (x : Alias). NoneIs x.record_place (alias_places older)) (sym same) held.apart.0.1)
+      (subst (λ (x : Alias). NoneIs x.value_place (alias_places older)) (sym same) held.apart.1.0) in
+      ap (λ (o : Option (List ℕ)). record { name = a.name; value = unwrap_or o [] } ∷ map (text_of n) older) there
+      ∙ ap (λ (texts : List AliasText). record { name = a.name; value = text } ∷ texts) (texts_kept m n older keeps held.used.1.1)
+  texts_first text a older false e there held later is =
+      let off = among_found name a.value_place older b held.apart.1.0 is in
+      ap (λ (o : Option (List ℕ)). record { name = a.name; value = unwrap_or o [] } ∷ map (text_of n) (moved name value older)) (value_at-kept m n a.value_place held.used.1.0 (λ bytes. kept a.value_place bytes off.0 off.1))
+      ∙ ap (λ (texts : List AliasText). text_of m a ∷ texts) (later is)
+
+  texts_moved : (text : List ℕ) (aliases : List Alias) → value_at n value ≡ Some text → AreHeld m (alias_places aliases) → find (λ (x : Alias). bytes_eq x.name name) aliases ≡ Some b → map (text_of n) (moved name value aliases) ≡ with_value (map (text_of m) aliases) name text
+  texts_moved text [] there held is = absurd (cc)
+  texts_moved text (a ∷ older) there held is =
+      texts_first text a older (bytes_eq a.name name) refl there held (λ found. texts_moved text older there (record { used = held.used.1.1; apart = held.apart.1.1 }) found) is
+
 -- The value has its new block, and the record names it.
 module _ (m : Memory) (newest : Option ℕ) (name value : List ℕ) (a : Alias) (v : ℕ) (laid : Laid m) (h : HoldsAliases m newest)
     (is : find (λ (x : Alias). bytes_eq x.name name) (aliases_of m newest) ≡ Some a) (given : (replace_value m a.value_place value).answer ≡ Ok v) where
@@ -167,17 +189,32 @@ module _ (m : Memory) (newest : Option ℕ) (name value : List ℕ) (a : Alias) 
       ap (λ (o : Option (List ℕ)). zone_bytes (with_zone_bytes m1 a.record_place (with_field (unwrap_or o []) 36 (u32_bytes v))) a.record_place) still
       ∙ zone_bytes-written m1 a.record_place bytes (with_field bytes 36 (u32_bytes v)) still (length-with_field bytes 36 (u32_bytes v) (omega arith))
 
+  chain2 : IsChain m2 newest (moved name v (aliases_of m newest))
+  chain2 = chain_moved m m2 name a v low kept here newest (aliases_of m newest) h.held.apart is h.chain
+
+  held2 : AreHeld m2 (alias_places (moved name v (aliases_of m newest)))
+  held2 =
+      let exchange = is_moved name v (aliases_of m newest) a is in
+      let held = AreHeld-replace_value m value a.value_place v exchange.front exchange.back laid given (subst (AreHeld m) exchange.was h.held) in
+      subst (AreHeld m2) (sym exchange.now) (record { used = AreUsed-with_zone_bytes m1 a.record_place _ _ held.used; apart = held.apart })
+
   pub became_moved : Stays m (value_moved (replace_value m a.value_place value).after a.record_place v) newest newest
   became_moved =
-      let aliases = aliases_of m newest in
-      let exchange = is_moved name v aliases a is in
-      let held = AreHeld-replace_value m value a.value_place v exchange.front exchange.back laid given (subst (AreHeld m) exchange.was h.held) in
-      stays_are m m2 newest newest (moved name v aliases)
-      (chain_moved m m2 name a v low kept here newest aliases h.held.apart is h.chain)
-      (subst (AreHeld m2) (sym exchange.now) (record { used = AreUsed-with_zone_bytes m1 a.record_place _ _ held.used; apart = held.apart }))
+      let exchange = is_moved name v (aliases_of m newest) a is in
+      stays_are m m2 newest newest (moved name v (aliases_of m newest)) chain2 held2
       (λ q bytes none there.
-      let off = among_found name q aliases a none is in
+      let off = among_found name q (aliases_of m newest) a none is in
       (subst (NoneIs q) (sym exchange.now) (none_exchanged q a.value_place v exchange.front exchange.back (λ same. replace_apart m value bytes a.value_place v q laid given there (sym same)) (subst (NoneIs q) exchange.was none)), kept q bytes off.0 off.1 there))
+
+  -- its text has the new value
+  pub moved_texts : IsText value → alias_texts (value_moved (replace_value m a.value_place value).after a.record_place v) newest ≡ with_value (alias_texts m newest) name value
+  unfolding value_at
+  moved_texts text =
+      let off : v ≢ a.record_place = λ same. replace_apart m value found.bytes a.value_place v a.record_place laid given found.there (sym same) in
+      let there : value_at m2 v ≡ Some value =
+      ap (option_map until_zero) (zone_bytes-elsewhere m1 a.record_place v _ off) ∙ value_at-replace_value m value a.value_place v laid found.used text given in
+      ap (map (text_of m2)) (aliases_are m2 newest (moved name v (aliases_of m newest)) chain2 held2).1
+      ∙ texts_moved m m2 name a v low kept here value (aliases_of m newest) there h.held is
 
 -- An alias that was changed is held where it was.
 pub stays_changed : (m : Memory) (newest : Option ℕ) (name value : List ℕ) (a : Alias) → Laid m → HoldsAliases m newest → find (λ (x : Alias). bytes_eq x.name name) (aliases_of m newest) ≡ Some a → Stays m (changed m newest a value).after newest (changed m newest a value).newest

@@ -1,13 +1,13 @@
 -- Laws of the aliases, for those who keep them.
-use Rattle.std.proofs.Common.{◌≡◌, ℕ, zero, suc, ◌≤◌, List, [], ◌∷◌, length, Option, Some, None, refl, sym, ap, ◌∙◌, arith, subst}
-use Rattle.std.specs.List.{AllByRecursion}
+use Rattle.std.proofs.Common.{◌≡◌, ℕ, zero, suc, ◌≤◌, List, [], ◌∷◌, length, map, Option, None, refl, sym, ap, ◌∙◌, arith, subst}
+use Rattle.std.specs.Option.{unwrap_or}
 use Rattle.mem_model.specs.Memory.{Memory}
-use Rattle.mem_model.specs.Zone.{zone_bytes}
 use Rattle.mem_model.specs.Apart.{AreUsed}
 use Rattle.mem_model.proofs.ZoneApart.{places-few}
 use Rattle.zone_values.specs.Held.{AreHeld, KeepsAt}
-use Rattle.zone_values.proofs.HeldLaws.{some-kept}
-use Rattle.cmd_buffer.specs.Aliases.{Alias, alias_at, alias_and, next_in, name_in, value_in, IsRecord, IsChain, HoldsAliases, followed, aliases_of, alias_places}
+use Rattle.zone_values.specs.Values.{value_at}
+use Rattle.zone_values.proofs.HeldLaws.{some-kept, value_at-kept}
+use Rattle.cmd_buffer.specs.Aliases.{Alias, alias_at, alias_and, next_in, value_in, IsRecord, IsChain, HoldsAliases, followed, aliases_of, alias_places, AliasText, text_of, alias_texts}
 
 pub chain_still : (m n : Memory) (first : Option ℕ) (aliases : List Alias) → KeepsAt m n (alias_places aliases) → IsChain m first aliases → IsChain n first aliases
 chain_still m n first [] keeps chain = chain
@@ -67,3 +67,16 @@ holds_none m = (aliases_are m None [] refl (record { used = tt; apart = tt })).0
 
 pub aliases_none : (m : Memory) → aliases_of m None ≡ []
 aliases_none m = (aliases_are m None [] refl (record { used = tt; apart = tt })).1
+
+-- the texts of aliases whose blocks keep their bytes
+pub texts_kept : (m n : Memory) (aliases : List Alias) → KeepsAt m n (alias_places aliases) → AreUsed m (alias_places aliases) → map (text_of n) aliases ≡ map (text_of m) aliases
+texts_kept m n [] keeps used = refl
+texts_kept m n (a ∷ older) keeps used =
+    let value : value_at n a.value_place ≡ value_at m a.value_place = value_at-kept m n a.value_place used.1.0 keeps.1.0 in
+    ap (λ (o : Option (List ℕ)). record { name = a.name; value = unwrap_or o [] } ∷ map (text_of n) older) value
+    ∙ ap (λ (texts : List AliasText). text_of m a ∷ texts) (texts_kept m n older keeps.1.1 used.1.1)
+
+-- So do the texts.
+pub texts_still : (m n : Memory) (newest : Option ℕ) → KeepsAt m n (alias_places (aliases_of m newest)) → HoldsAliases m newest → alias_texts n newest ≡ alias_texts m newest
+texts_still m n newest keeps h =
+    ap (map (text_of n)) (aliases_still m n newest keeps h).1 ∙ texts_kept m n (aliases_of m newest) keeps h.held.used

@@ -1,10 +1,10 @@
 -- What the record of the newest alias tells.
-use Rattle.std.proofs.Common.{◌≡◌, ◌≤◌, ℕ, List, [], ◌∷◌, length, Option, Some, None, refl, sym, ap, ◌∙◌, subst}
+use Rattle.std.proofs.Common.{◌≡◌, ◌≤◌, ℕ, List, [], ◌∷◌, length, Option, Some, refl, sym, ap, ◌∙◌, subst}
 use Rattle.std.specs.Prelude.{IsSome}
 use Rattle.mem_model.specs.Memory.{Memory}
 use Rattle.mem_model.specs.Zone.{zone_bytes}
 use Rattle.zone_values.specs.Held.{AreHeld}
-use Rattle.cmd_buffer.specs.Aliases.{Alias, alias_at, next_in, name_in, value_in, IsRecord, IsChain, HoldsAliases, aliases_of, alias_places}
+use Rattle.cmd_buffer.specs.Aliases.{Alias, alias_at, next_in, value_in, IsChain, HoldsAliases, aliases_of, alias_places}
 use Rattle.cmd_buffer.proofs.AliasLaws.{aliases_are, alias_is}
 
 -- These are the bytes of the newest record: the aliases are that of the record, and those from the next place on.

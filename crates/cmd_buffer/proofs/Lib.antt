@@ -5,6 +5,7 @@ pub mod AliasLaws
 pub mod AliasNames
 pub mod AliasReads
 pub mod AliasRows
+pub mod AliasSetLaws
 pub mod AliasWriting
 pub mod Counting
 pub mod Cuts

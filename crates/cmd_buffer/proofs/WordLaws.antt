@@ -1,10 +1,10 @@
 -- Laws of the words of a text: they are parts of it.
-use Rattle.std.proofs.Common.{◌≡◌, ◌≢◌, ◌==◌, ℕ, zero, suc, ◌+◌, ◌≤◌, Bool, true, false, not, List, [], ◌∷◌, length, take, drop, Option, Some, None, if◌then◌else◌, refl, arith}
+use Rattle.std.proofs.Common.{◌≢◌, ◌==◌, ℕ, zero, suc, ◌+◌, ◌≤◌, Bool, true, false, not, List, [], ◌∷◌, length, take, drop, Option, Some, None, if◌then◌else◌, arith}
 use Rattle.std.specs.List.{position_or_len, AllByRecursion}
 use Rattle.std.proofs.lemmas.List.{length-take, length-drop}
 use Rattle.std.proofs.lemmas.List.Elements.{All-take, All-drop, All-head, All-tail, All-cons, All-nil}
 use Rattle.mem_model.specs.Laid.{IsText}
-use Rattle.cmd_buffer.specs.Words.{Word, is_blank, is_single, ends_word, is_comment, quoted, plain, word_from, word_at_front, first_word, word_and, first_words, words_of, letters_in}
+use Rattle.cmd_buffer.specs.Words.{Word, is_blank, is_single, ends_word, is_comment, quoted, plain, word_from, first_word, word_and, first_words, words_of, letters_in}
 use Rattle.cmd_buffer.proofs.Counting.{few_words}
 
 -- A word and what follows it are parts of the text.

@@ -2,6 +2,7 @@
 use Prim.Native.Nat.{zero, suc}
 use Rattle.std.specs.Prelude.{◌≡◌, ◌≤◌, ℕ, ◌-◌, List, [], ◌∷◌, ◌++◌, length, take, drop, replicate, map, find, nat_eq, nat_lt, bytes_eq, Option, Some, None, Result, Ok, Err, if◌then◌else◌, option_and_then}
 use Rattle.std.specs.Option.{unwrap_or}
+use Rattle.std.specs.List.{list_any}
 use Rattle.std.specs.Str.{str_eq_ignore_ascii_case}
 use Rattle.base_fields.specs.Fields.{u32_in, u32_bytes, with_field}
 use Rattle.base_fields.specs.Texts.{until_zero}
@@ -93,6 +94,17 @@ text_of m a = record { name = a.name; value = unwrap_or (value_at m a.value_plac
 -- the names with their values, the newest first
 abbrev pub alias_texts : Memory → Option ℕ → List AliasText
 alias_texts m newest = map (text_of m) (aliases_of m newest)
+
+-- the texts with another value for the newest of exactly this name
+abbrev pub with_value : List AliasText → (name value : List ℕ) → List AliasText
+with_value [] name value = []
+with_value (t ∷ older) name value = if bytes_eq t.name name then record t { value = value } ∷ older else t ∷ with_value older name value
+
+-- A name that has a text gets the value. Another one and the value are the newest text.
+abbrev pub with_text : List AliasText → (name value : List ℕ) → List AliasText
+with_text texts name value =
+    if list_any (λ (t : AliasText). bytes_eq t.name name) texts then with_value texts name value
+    else record { name = name; value = value } ∷ texts
 
 -- the value of the newest alias of a name, in any case of its letters
 abbrev pub alias_value : Memory → Option ℕ → List ℕ → Option (List ℕ)

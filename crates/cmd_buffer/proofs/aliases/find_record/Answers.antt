@@ -1,4 +1,4 @@
-use Rattle.std.proofs.Common.{◌≡◌, ℕ, ap, sym, ◌∙◌, find, List, Option}
+use Rattle.std.proofs.Common.{ℕ, ap, sym, ◌∙◌, find, Option}
 use Rattle.cmd_buffer.specs.Aliases.{Alias, aliases_of}
 use Rattle.cmd_buffer.specs.AliasRecords.{is_same}
 use Rattle.cmd_buffer.proofs.AliasLaws.{aliases_none}

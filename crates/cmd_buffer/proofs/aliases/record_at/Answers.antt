@@ -1,4 +1,4 @@
-use Rattle.std.proofs.Common.{◌≡◌, ◌≤◌, ◌+◌, ℕ, ◌∷◌, List, Option, Some, length, sym, ap, ◌∙◌, subst, arith, rules}
+use Rattle.std.proofs.Common.{arith, rules}
 use Rattle.cmd_buffer.proofs.AliasReads.{is_read, newest_used}
 use Rattle.cmd_buffer.proofs.aliases.record_at.Goals as goal
 

@@ -1,10 +1,8 @@
-use Rattle.std.proofs.Common.{◌≡◌, ◌≤◌, ◌∙◌, ℕ, List, Option, Some, Ok, Err, length, refl, sym, ap, subst}
-use Rattle.mem_model.specs.Memory.{Memory}
+use Rattle.std.proofs.Common.{◌≡◌, ◌≤◌, ◌∙◌, ℕ, List, Option, Some, length, refl, sym, ap, subst}
 use Rattle.mem_model.specs.Hunk.{over}
 use Rattle.mem_model.specs.Zone.{with_zone_bytes}
 use Rattle.mem_model.proofs.ZoneLaying.{Laid-with_zone_bytes}
 use Rattle.cmd_buffer.specs.Aliases.{spelled}
-use Rattle.cmd_buffer.specs.AliasCalls.{set_told, GivesSet}
 use Rattle.cmd_buffer.proofs.AliasAdding.{Stays, stays_added}
 use Rattle.cmd_buffer.proofs.AliasAnswers.{from_zone, has_room, record_set, set_same, record_freed, not_recorded, stays_set, stays_told}
 use Rattle.cmd_buffer.proofs.aliases.Aliases.add.Given.{Over}

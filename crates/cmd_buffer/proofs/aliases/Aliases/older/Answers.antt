@@ -1,4 +1,4 @@
-use Rattle.std.proofs.Common.{◌≡◌, ◌∙◌, sym, ap, refl, drop, None}
+use Rattle.std.proofs.Common.{◌∙◌, sym, ap, refl, drop, None}
 use Rattle.cmd_buffer.proofs.AliasRows.{texts_none}
 use Rattle.cmd_buffer.proofs.aliases.Aliases.older.Goals as goal
 

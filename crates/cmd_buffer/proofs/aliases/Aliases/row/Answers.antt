@@ -1,4 +1,4 @@
-use Rattle.std.proofs.Common.{◌≡◌, ◌-◌, ◌+◌, suc, Some, None, sym, ◌∙◌, arith}
+use Rattle.std.proofs.Common.{◌≡◌, ◌-◌, ◌+◌, suc, sym, ◌∙◌, arith}
 use Rattle.cmd_buffer.specs.AliasRecords.{alias_of}
 use Rattle.cmd_buffer.proofs.AliasRows.{row_more, row_first, row_none}
 use Rattle.cmd_buffer.proofs.aliases.Aliases.row.Goals as goal

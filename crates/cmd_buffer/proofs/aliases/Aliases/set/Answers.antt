@@ -1,4 +1,4 @@
-use Rattle.std.proofs.Common.{◌≡◌, ◌≤◌, ◌∙◌, ℕ, List, Option, Some, None, Ok, length, refl, sym, ap, subst, arith}
+use Rattle.std.proofs.Common.{◌≡◌, ◌≤◌, ◌∙◌, ℕ, List, Some, None, Ok, length, refl, sym, ap, subst, arith}
 use Rattle.mem_model.specs.Zone.{with_zone_bytes}
 use Rattle.mem_model.proofs.ZoneLaying.{Laid-with_zone_bytes}
 use Rattle.cmd_buffer.specs.Aliases.{changed}
