@@ -65,6 +65,10 @@ fn main(rt: HostRuntime) -> ExitCode {
             return report(&rt, &Status::OutOfMemory);
         }
     }
+    // A line of more words is faulty, whatever they are.
+    if words.len() > u32::MAX as usize {
+        return report(&rt, &Status::Usage { word: 0 });
+    }
     let mut script = StdinSource::new(rt.stdin());
     let mut out = StdoutSink::new(rt.stdout());
     let status = quake_main(alloc, &words, folders, &mut script, &mut out);
