@@ -23,6 +23,9 @@ const NAME_BYTES: usize = 32;
 
 const VALUE_AT: usize = 36;
 
+// A zero ends each name.
+const LONGEST_NAME: usize = 31;
+
 // What a record has for the place of the next, where there is none.
 const NO_PLACE: u32 = 0xFFFF_FFFF;
 
@@ -95,7 +98,7 @@ impl Aliases {
         ensures others { OthersStay (M.state store.old) (M.state store.new) (alias_places (aliases_of (M.state store.old) self.old)) (alias_places (aliases_of (M.state store.new) self.new)) }
         ensures laid { Laid (M.state store.old) → Laid (M.state store.new) }
     {
-        if NAME_BYTES <= name.len() {
+        if LONGEST_NAME < name.len() {
             return Err(AliasError::LongName);
         }
         match blocks_of(store, self.newest, name) {

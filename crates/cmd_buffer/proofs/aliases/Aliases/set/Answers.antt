@@ -10,8 +10,8 @@ use Rattle.cmd_buffer.proofs.AliasAnswers.{given_same, set_of, from_zone, found_
 use Rattle.cmd_buffer.proofs.aliases.Aliases.set.Given.{Over}
 use Rattle.cmd_buffer.proofs.aliases.Aliases.set.Goals as goal
 
-pub returns-then-name-ge-NAME_BYTES-clause-gives : goal.returns-then-name-ge-NAME_BYTES-clause-gives
-returns-then-name-ge-NAME_BYTES-clause-gives g c = long_set _ c.args.self.now c.args.name.now c.args.value.now c.if-name-ge-NAME_BYTES.true
+pub returns-then-name-gt-LONGEST_NAME-clause-gives : goal.returns-then-name-gt-LONGEST_NAME-clause-gives
+returns-then-name-gt-LONGEST_NAME-clause-gives g c = long_set _ c.args.self.now c.args.name.now c.args.value.now c.if-name-gt-LONGEST_NAME.true
 
 pub returns-in_err-new-in-Some-clause-gives : goal.returns-in_err-new-in-Some-clause-gives
 returns-in_err-new-in-Some-clause-gives g c =
