@@ -146,7 +146,7 @@ impl Aliases {
         }
     }
 
-    /// The aliases behind the newest. A walk over all takes row 0 and goes on with these, so that it is linear.
+    /// The aliases behind the newest. A walk over all takes the first row and goes on with these, so that it is linear.
     pub fn older<M: Store>(&self, store: &M) -> Aliases
         requires holds { HoldsAliases (M.state store.now) self.now }
         ensures older { result ≡ older_than (M.state store.now) self.now }
