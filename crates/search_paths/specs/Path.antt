@@ -1,5 +1,5 @@
 -- The path: its folders with what they tell and their counts, and its mounts, from its front on.
-use Rattle.std.specs.Prelude.{◌≡◌, ◌≤◌, ℕ, List, [], ◌∷◌, ◌++◌, Result, map, reverse, slice_get, Option, Some, None, option_map, option_and_then}
+use Rattle.std.specs.Prelude.{◌≡◌, ◌≤◌, ℕ, List, [], ◌∷◌, ◌++◌, Result, map, slice_get, Option, Some, None, option_map, option_and_then}
 use Rattle.std.specs.Option.{option_flatten}
 use Rattle.outside_io.specs.Files.{File}
 use Rattle.outside_io.specs.declared.outside.Folder.{Ghosts}
@@ -32,11 +32,11 @@ module _ {F : Type 0} {g : Ghosts F} where
 
   -- how the mounts are listed
   abbrev pub rows_of : Paths F g → List MountRow
-  rows_of paths = reverse (map row_of paths.mounts.items)
+  rows_of paths = map row_of paths.mounts.items
 
   -- each mount, where its folder tells its files
   abbrev pub told_mounts : Paths F g → List (Option Mount)
-  told_mounts paths = reverse (map (mount_of (told_of paths)) paths.mounts.items)
+  told_mounts paths = map (mount_of (told_of paths)) paths.mounts.items
 
   abbrev pub mount_at : ℕ → Paths F g → Option Mount
   mount_at number paths = option_flatten (slice_get (told_mounts paths) number)

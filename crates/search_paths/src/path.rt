@@ -11,7 +11,7 @@ use std::alloc::{AllocError, Global};
 #[derive(Drop)]
 pub struct Paths<F: Folder = Box<dyn Folder>> {
     pub(crate) folders: Vec<F>,
-    // the front of the path is last
+    // from the path's front on
     pub(crate) mounts: Vec<Mounted>,
     ghost most: { vec_len folders ≤ 65536 },
     ghost few: { vec_len mounts ≤ 33 * vec_len folders },
@@ -40,7 +40,10 @@ impl<F: Folder> Paths<F> {
         ensures mount { IfSome (mounts_of self.now) (λ mounts. result ≡ option_map (λ mount. mount.row) (slice_get mounts number)) }
         ensures few { length (rows_of self.now) ≤ 33 * 65536 }
     {
-        unreachable!()
+        match self.mounts.get(number as usize) {
+            Some(mounted) => Some(mounted.row()),
+            None => None,
+        }
     }
 
     /// Hands the folder of this number back, and drops the rest.
@@ -48,6 +51,7 @@ impl<F: Folder> Paths<F> {
         requires { folder < length (folders_of self) }
         ensures { slice_get (folders_of self) folder ≡ Some result }
     {
-        unreachable!()
+        let mut folders = self.folders;
+        folders.swap_remove(folder as usize)
     }
 }
