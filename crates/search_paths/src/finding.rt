@@ -70,8 +70,9 @@ fn find_first<F: Folder>(
 {
     for number in 0..mounts.len() {
         match find_in(folders, &mounts[number], number as u32, name) {
+            Ok(Some(file)) => return Ok(Some(file)),
             Ok(None) => {}
-            found => return found,
+            Err(fault) => return Err(fault),
         }
     }
     Ok(None)
