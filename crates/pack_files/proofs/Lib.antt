@@ -1,0 +1,4 @@
+mod Examples
+pub mod Headers
+pub mod Packing
+pub mod Tables

@@ -1,0 +1,20 @@
+-- What is answered for a pack.
+use Rattle.std.specs.Prelude.{◌≡◌, ℕ, ⊤, List, length, take, Some, None, Result, Ok, Err}
+use Rattle.pack_files.specs.declared.faults.PackFault.{PackFault}
+use Rattle.pack_files.specs.declared.faults.PackError.{PackError}
+use Rattle.pack_files.specs.declared.faults.PackError.TheVariants.{Bad, FolderFault, OutOfMemory}
+use Rattle.pack_files.specs.Packs.{PackTable, fault_of}
+
+-- The table or the fault is the one that the bytes have. A fault of the folder and a want of memory say nothing of them.
+abbrev pub IsAnswer : Result PackTable PackFault → Result PackTable PackError → Type 0
+IsAnswer packed (Ok table) = packed ≡ Ok table
+IsAnswer packed (Err (Bad fault)) = packed ≡ Err fault
+IsAnswer packed (Err FolderFault) = ⊤
+IsAnswer packed (Err OutOfMemory) = ⊤
+
+-- the same of the header alone: it is the first 12 bytes, and there is no fault
+abbrev pub IsHeader : List ℕ → Result (List ℕ) PackError → Type 0
+IsHeader bytes (Ok header) = (header ≡ take 12 bytes) × (fault_of bytes (length bytes) ≡ None)
+IsHeader bytes (Err (Bad fault)) = fault_of bytes (length bytes) ≡ Some fault
+IsHeader bytes (Err FolderFault) = ⊤
+IsHeader bytes (Err OutOfMemory) = ⊤

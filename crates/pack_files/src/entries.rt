@@ -1,0 +1,54 @@
+// The files of a pack.
+ghost use Rattle.std.specs.Prelude.{◌≡◌};
+ghost use Rattle.pack_files.specs.Packs.{entry_of};
+
+use indexmap::IndexMap;
+use std::marker::Model;
+
+/// Where a file stands in its pack, and how many bytes it has. Its end may lie past the pack's end.
+#[derive(Clone, Copy, Debug, PartialEq, Eq)]
+pub struct Entry {
+    /// The place of its first byte.
+    pub offset: u32,
+    /// How many bytes it has.
+    pub length: u32,
+}
+
+/// The directory of a pack. Contracts see it as the first row of each name, the count of all rows, and the pack's length.
+#[derive(Drop)]
+pub struct Pack {
+    pub(crate) entries: IndexMap<Vec<u8>, Entry>,
+    pub(crate) count: u32,
+    pub(crate) whole: u64,
+}
+
+impl Model for Pack {
+    ghost use Rattle.pack_files.specs.Packs.{PackTable, table_of};
+
+    ghost Value = { PackTable };
+
+    ghost view = { λ p. record { rows = table_of p.entries.entries; count = p.count; whole = p.whole } };
+}
+
+impl Pack {
+    /// The first entry of this name.
+    pub fn entry(&self, name: &[u8]) -> Option<Entry>
+        ensures { result ≡ entry_of name.now self.now.rows }
+    {
+        self.entries.get(name).copied()
+    }
+
+    /// How many entries the directory has, those of a name that came before included.
+    pub fn count(&self) -> u32
+        ensures { result ≡ self.now.count }
+    {
+        self.count
+    }
+
+    /// The length of the pack in bytes.
+    pub fn whole(&self) -> u64
+        ensures { result ≡ self.now.whole }
+    {
+        self.whole
+    }
+}

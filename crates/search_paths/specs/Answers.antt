@@ -1,0 +1,61 @@
+-- What the calls of the path answer.
+use Rattle.std.specs.Prelude.{◌≡◌, ℕ, ◌+◌, ◌^◌, ◌<◌, ◌≤◌, List, [], ◌∷◌, ◌++◌, length, map, reverse, slice_range, Option, Some, None, option_map, IfSome, IsOkAnd, Result, Ok, Err, ⊤}
+use Rattle.outside_io.specs.Causes.{Rose}
+use Rattle.search_paths.specs.declared.answers.FileRef.{FileRef}
+use Rattle.search_paths.specs.declared.answers.MountError.{MountError}
+use Rattle.search_paths.specs.declared.answers.MountError.TheVariants as error
+use Rattle.search_paths.specs.declared.answers.MountRow.{MountRow}
+use Rattle.search_paths.specs.declared.answers.MountRow.TheVariants as row
+use Rattle.search_paths.specs.Mounts.{FileAt, Mount, BadPack, file_in, find_in}
+
+-- where a file stands on the path, in the mount of this number
+abbrev pub ref_of : ℕ → FileAt → FileRef
+ref_of mount file = record { mount = mount; offset = file.offset; length = file.size; whole = file.whole }
+
+-- where the first file of this name stands on the path
+abbrev pub first_of : List ℕ → List Mount → Option FileRef
+first_of name mounts = option_map (λ found. ref_of found.0 found.1) (find_in name mounts)
+
+-- where the mount tells its files, it has a file of this name there
+abbrev pub HasFile : List ℕ → FileRef → Option Mount → Type 0
+HasFile name file mount = IfSome mount (λ m. option_map (ref_of file.mount) (file_in name m.files) ≡ Some file)
+
+-- where it tells its files, these are the bytes of its file of this name from `at` on, where the file lies inside
+abbrev pub IsFilePart : List ℕ → ℕ → List ℕ → Option Mount → Type 0
+IsFilePart name at part mount = IfSome mount (λ m. IfSome (file_in name m.files) (λ file. IfSome file.bytes (λ bytes. part ≡ slice_range bytes at (at + length part))))
+
+-- how large the numbers are of a file on a path of so many mounts
+pub record IsFileRef (mounts : ℕ) (file : FileRef) : Type 0 where
+  pub mount : file.mount < mounts
+  pub offset : file.offset < 2 ^ 32
+  pub length : file.length < 2 ^ 62
+
+-- The mounts of the folder stand in front of those before, or the bad pack is its first. A fault of the folder and a want of
+-- memory say nothing of its packs.
+abbrev pub IsMounted : Result (List Mount) BadPack → List (Option Mount) → List (Option Mount) → Result (Unit {0}) MountError → Type 0
+IsMounted own before after (Ok done) = IsOkAnd own (λ mounts. after ≡ map Some mounts ++ before)
+IsMounted own before after (Err (error.BadPack folder pack fault)) = own ≡ Err (record { folder = folder; pack = pack; fault = fault })
+IsMounted own before after (Err (error.FolderFault folder)) = ⊤
+IsMounted own before after (Err error.OutOfMemory) = ⊤
+
+-- the rows of packs with these counts, the first of this number
+abbrev pub pack_rows : ℕ → ℕ → List ℕ → List MountRow
+pack_rows folder number [] = []
+pack_rows folder number (count ∷ counts) = row.Pack folder number count ∷ pack_rows folder (number + 1) counts
+
+-- the folder's row, and at most 32 of its packs, the last first, stand in front of those before
+abbrev pub AddsRows : ℕ → List MountRow → List MountRow → Type 0
+AddsRows folder before after = (counts : List ℕ) × (length counts ≤ 32) × (after ≡ reverse (pack_rows folder 0 counts) ++ row.Folder folder ∷ before)
+
+-- an error of a folder names the one of this number
+abbrev pub IsOfFolder : ℕ → MountError → Type 0
+IsOfFolder number (error.BadPack folder pack fault) = (folder ≡ number) × (pack < 32)
+IsOfFolder number (error.FolderFault folder) = folder ≡ number
+IsOfFolder number error.OutOfMemory = ⊤
+
+-- a fault of the folder comes only where its count rose
+abbrev pub IsCaused : ℕ → ℕ → Result (Unit {0}) MountError → Type 0
+IsCaused before after (Ok done) = ⊤
+IsCaused before after (Err (error.BadPack folder pack fault)) = ⊤
+IsCaused before after (Err (error.FolderFault folder)) = Rose before after
+IsCaused before after (Err error.OutOfMemory) = ⊤

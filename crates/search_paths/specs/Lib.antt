@@ -1,0 +1,5 @@
+pub mod Answers
+pub mod Counts
+pub mod Kept
+pub mod Mounts
+pub mod Path
