@@ -1,10 +1,9 @@
 -- What is answered for a pack, by what was read of it.
-use Rattle.std.proofs.Common.{◌≡◌, ℕ, zero, suc, ◌+◌, ◌-◌, ◌*◌, ◌/◌, ◌≤◌, List, ◌∷◌, length, take, drop, map, Option, Some, None, IfSome, Ok, Err, refl, sym, ap, subst, ◌∙◌, lit≤, arith}
+use Rattle.std.proofs.Common.{◌≡◌, ℕ, zero, suc, ◌+◌, ◌*◌, ◌/◌, List, ◌∷◌, length, take, drop, map, Option, Some, None, IfSome, Ok, Err, refl, sym, ap, ◌∙◌, lit≤, arith}
 use Rattle.std.specs.Prelude.{slice_range, option_map}
 use Rattle.std.specs.Option.{ForSome}
 use Rattle.std.specs.Simd.{first_chunks}
 use Rattle.std.proofs.lemmas.List.{take-take, drop-take}
-use Rattle.base_fields.specs.Fields.{u32_in}
 use Rattle.base_fields.proofs.FieldLaws.{u32_in-part}
 use Rattle.outside_io.specs.Files.{File, bytes_of, length_of}
 use Rattle.pack_files.specs.declared.faults.PackError.{PackError}

@@ -40,9 +40,9 @@ pub fn read_pack<F: Folder>(
     let (rows, _) = bytes.as_chunks::<64>();
     match first_entries(alloc, rows) {
         Ok(entries) => Ok(Pack {
-            entries,
             count: row_count(&header),
             whole: length,
+            entries,
         }),
         Err(_) => Err(PackError::OutOfMemory),
     }
