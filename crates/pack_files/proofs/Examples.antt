@@ -1,7 +1,6 @@
 -- What some bytes are as a pack.
 use Rattle.std.proofs.Common.{◌≡◌, ℕ, List, [], ◌∷◌, ◌++◌, replicate, Some, None, Ok, Err, codes, refl}
 use Rattle.base_fields.specs.Fields.{u32_in, u32_bytes}
-use Rattle.pack_files.specs.declared.entries.Entry.{Entry}
 use Rattle.pack_files.specs.declared.faults.PackFault.TheVariants.{NotPack, TooMany, DirOutside}
 use Rattle.pack_files.specs.Packs.{Row, first_rows, entry_of, pack_of}
 

@@ -1,6 +1,6 @@
 -- What the header of a pack tells of its bytes.
-use Rattle.std.proofs.Common.{◌≡◌, ℕ, ◌+◌, ◌*◌, ◌/◌, ◌≤◌, Bool, not, ◌||◌, List, length, take, Option, Some, None, IfSome, Ok, Err, nat_eq, nat_lt, codes, refl, sym, ap, subst, ◌∙◌, lit≤, arith}
-use Rattle.std.specs.Prelude.{slice_range, option_map, if◌then◌else◌, Result}
+use Rattle.std.proofs.Common.{◌≡◌, ℕ, ◌+◌, ◌*◌, ◌/◌, Bool, not, ◌||◌, List, length, take, Option, Some, None, IfSome, nat_eq, nat_lt, codes, refl, sym, ap, ◌∙◌, lit≤}
+use Rattle.std.specs.Prelude.{slice_range, option_map, if◌then◌else◌}
 use Rattle.std.specs.List.{starts_with}
 use Rattle.std.specs.Cmp.Lexicographic.{pointwise}
 use Rattle.std.specs.Option.{ForSome}
@@ -10,9 +10,7 @@ use Rattle.base_fields.proofs.FieldLaws.{u32_in-part}
 use Rattle.outside_io.specs.Files.{File, bytes_of, length_of, IsPartOf}
 use Rattle.pack_files.specs.declared.faults.PackFault.{PackFault}
 use Rattle.pack_files.specs.declared.faults.PackFault.TheVariants.{NotPack, TooMany, DirOutside}
-use Rattle.pack_files.specs.declared.faults.PackError.{PackError}
 use Rattle.pack_files.specs.Packs.{fault_of}
-use Rattle.pack_files.specs.Answers.{IsHeader}
 
 -- the fault by what is read of the header
 abbrev fault_by : Bool → ℕ → ℕ → ℕ → Option PackFault

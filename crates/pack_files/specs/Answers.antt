@@ -1,9 +1,14 @@
 -- What is answered for a pack.
-use Rattle.std.specs.Prelude.{◌≡◌, ℕ, ⊤, List, length, take, Some, None, Result, Ok, Err}
+use Rattle.std.specs.Prelude.{◌≡◌, ℕ, ⊤, List, length, take, Option, Some, None, IfSome, Result, Ok, Err}
+use Rattle.outside_io.specs.Files.{File, bytes_of}
 use Rattle.pack_files.specs.declared.faults.PackFault.{PackFault}
 use Rattle.pack_files.specs.declared.faults.PackError.{PackError}
 use Rattle.pack_files.specs.declared.faults.PackError.TheVariants.{Bad, FolderFault, OutOfMemory}
 use Rattle.pack_files.specs.Packs.{PackTable, fault_of}
+
+-- this holds of the bytes of the first file of this name, where the folder tells its files and has one
+abbrev pub IfTold : Option (List File) → List ℕ → (List ℕ → Type 0) → Type 0
+IfTold told name P = IfSome told (λ files. IfSome (bytes_of name files) P)
 
 -- The table or the fault is the one that the bytes have. A fault of the folder and a want of memory say nothing of them.
 abbrev pub IsAnswer : Result PackTable PackFault → Result PackTable PackError → Type 0

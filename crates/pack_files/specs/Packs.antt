@@ -1,5 +1,5 @@
 -- Packs: a header, and a directory of rows.
-use Rattle.std.specs.Prelude.{ℕ, ◌+◌, ◌*◌, ◌/◌, Bool, not, ◌||◌, nat_eq, nat_lt, if◌then◌else◌, List, [], ◌∷◌, length, take, drop, map, filter, Option, Some, None, Result, Ok, Err, bytes_eq, codes}
+use Rattle.std.specs.Prelude.{ℕ, ◌+◌, ◌*◌, ◌/◌, not, ◌||◌, nat_eq, nat_lt, if◌then◌else◌, List, [], ◌∷◌, length, take, map, filter, slice_range, Option, Some, None, Result, Ok, Err, bytes_eq, codes}
 use Rattle.std.specs.List.{starts_with}
 use Rattle.std.specs.Simd.{first_chunks}
 use Rattle.std.specs.declared.vec.Vec.{Vec}
@@ -25,9 +25,13 @@ directory_at bytes = u32_in bytes 4
 abbrev pub count_of : List ℕ → ℕ
 count_of bytes = u32_in bytes 8 / 64
 
--- its rows
+-- the bytes of the directory that this header tells
+abbrev pub directory_of : List ℕ → List ℕ → List ℕ
+directory_of header bytes = slice_range bytes (directory_at header) (directory_at header + 64 * count_of header)
+
+-- the rows of a pack's directory
 abbrev pub rows_of : List ℕ → List Row
-rows_of bytes = map row_of (first_chunks 64 (count_of bytes) (drop (directory_at bytes) bytes))
+rows_of bytes = map row_of (first_chunks 64 (count_of bytes) (directory_of bytes bytes))
 
 -- the first row of each name
 abbrev pub first_rows : List Row → List Row

@@ -17,9 +17,10 @@ pub struct Entry {
 /// The directory of a pack. Contracts see it as the first row of each name, the count of all rows, and the pack's length.
 #[derive(Drop)]
 pub struct Pack {
-    pub(crate) entries: IndexMap<Vec<u8>, Entry>,
     pub(crate) count: u32,
     pub(crate) whole: u64,
+    // The first entry of each name.
+    pub(crate) entries: IndexMap<Vec<u8>, Entry>,
 }
 
 impl Model for Pack {

@@ -1,10 +1,10 @@
 // Reading the directory of a pack.
-ghost use Rattle.std.specs.Prelude.{◌≡◌, ◌≤◌, ◌+◌, ◌*◌, ◌⊎◌, Some, None, IfOk, IfErr, IfSome, IsErrOf, slice_range, vec_len};
+ghost use Rattle.std.specs.Prelude.{◌≡◌, ◌≤◌, ◌*◌, ◌⊎◌, Some, None, IfOk, IfErr, IsErrOf, vec_len};
 ghost use Rattle.std.specs.Option.{ForSome};
 ghost use Rattle.outside_io.specs.Causes.{Rose};
-ghost use Rattle.outside_io.specs.Files.{bytes_of, length_of, HasRange};
-ghost use Rattle.pack_files.specs.Packs.{fault_of, directory_at, count_of, pack_of};
-ghost use Rattle.pack_files.specs.Answers.{IsAnswer, IsHeader};
+ghost use Rattle.outside_io.specs.Files.{length_of, HasRange};
+ghost use Rattle.pack_files.specs.Packs.{fault_of, directory_at, count_of, directory_of, pack_of};
+ghost use Rattle.pack_files.specs.Answers.{IfTold, IsAnswer, IsHeader};
 
 use crate::directory::{directory_place, first_entries, first_fault, row_count};
 use crate::entries::Pack;
@@ -21,7 +21,7 @@ pub fn read_pack<F: Folder>(
     length: u64,
 ) -> Result<Pack, PackError>
     requires { ForSome (F.files folder.old) (λ files. length_of name.now files ≡ Some length) }
-    ensures told { IfSome (F.files folder.old) (λ files. IfSome (bytes_of name.now files) (λ bytes. IsAnswer (pack_of bytes) result)) }
+    ensures told { IfTold (F.files folder.old) name.now (λ bytes. IsAnswer (pack_of bytes) result) }
     ensures whole { IfOk result (λ pack. pack.whole ≡ length) }
     ensures counted { IfOk result (λ pack. pack.count ≤ 2048) }
     ensures same { F.files folder.new ≡ F.files folder.old }
@@ -29,20 +29,14 @@ pub fn read_pack<F: Folder>(
     ensures faults { F.folder_faults folder.old ≤ F.folder_faults folder.new }
     ensures calls { F.folder_calls folder.old ≤ F.folder_calls folder.new }
 {
-    let header = match read_header(folder, name, length) {
-        Ok(header) => header,
-        Err(error) => return Err(error),
-    };
-    let bytes = match read_rows(alloc, folder, name, &header) {
-        Ok(bytes) => bytes,
-        Err(error) => return Err(error),
-    };
+    let header = read_header(folder, name, length)?;
+    let bytes = read_rows(alloc, folder, name, &header)?;
     let (rows, _) = bytes.as_chunks::<64>();
     match first_entries(alloc, rows) {
         Ok(entries) => Ok(Pack {
-            entries,
             count: row_count(&header),
             whole: length,
+            entries,
         }),
         Err(_) => Err(PackError::OutOfMemory),
     }
@@ -51,7 +45,7 @@ pub fn read_pack<F: Folder>(
 // The header of the pack, where it has no fault.
 fn read_header<F: Folder>(folder: &mut F, name: &[u8], length: u64) -> Result<[u8; 12], PackError>
     requires { ForSome (F.files folder.old) (λ files. length_of name.now files ≡ Some length) }
-    ensures told { IfSome (F.files folder.old) (λ files. IfSome (bytes_of name.now files) (λ bytes. IsHeader bytes result)) }
+    ensures told { IfTold (F.files folder.old) name.now (λ bytes. IsHeader bytes result) }
     ensures passes { IfOk result (λ header. fault_of header length ≡ None) }
     ensures same { F.files folder.new ≡ F.files folder.old }
     ensures cause { IsErrOf result PackError.FolderFault → Rose (F.folder_faults folder.old) (F.folder_faults folder.new) }
@@ -80,7 +74,7 @@ fn read_rows<F: Folder>(
 ) -> Result<Vec<u8>, PackError>
     requires few { count_of header.now ≤ 2048 }
     requires range { ForSome (F.files folder.old) (HasRange name.now (directory_at header.now) (64 * count_of header.now)) }
-    ensures told { IfSome (F.files folder.old) (λ files. IfSome (bytes_of name.now files) (λ bytes. IfOk result (λ rows. rows.items ≡ slice_range bytes (directory_at header.now) (directory_at header.now + 64 * count_of header.now)))) }
+    ensures told { IfTold (F.files folder.old) name.now (λ bytes. IfOk result (λ rows. rows.items ≡ directory_of header.now bytes)) }
     ensures sized { IfOk result (λ rows. vec_len rows ≡ 64 * count_of header.now) }
     ensures error { IfErr result (λ error. (error ≡ PackError.FolderFault) ⊎ (error ≡ PackError.OutOfMemory)) }
     ensures same { F.files folder.new ≡ F.files folder.old }
