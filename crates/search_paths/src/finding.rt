@@ -8,8 +8,9 @@ ghost use Rattle.search_paths.specs.Mounts.{file_in, packed_file};
 ghost use Rattle.search_paths.specs.Path.{all_some, rows_of, mounts_of, mount_at, faults_of, calls_of, SamePath};
 
 use crate::answers::{FileRef, FolderFault};
-use crate::folders::length_in;
+use crate::folders::{length_in, read_in};
 use crate::mounted::Mounted;
+use crate::names::name_of_pack;
 use crate::path::Paths;
 use base_fields::GameName;
 use outside_io::Folder;
@@ -48,7 +49,8 @@ impl<F: Folder> Paths<F> {
         ensures cause { HasFolderCause (faults_of self.old) (faults_of self.new) result }
         ensures calls { NoneFalls (calls_of self.old) (calls_of self.new) }
     {
-        unreachable!()
+        let mounted = &self.mounts[file.mount as usize];
+        read_from(&mut self.folders, mounted, file, name.bytes(), at, into)
     }
 }
 
@@ -123,5 +125,34 @@ fn find_packed(directory: &Pack, number: u32, name: &[u8]) -> Option<FileRef>
             whole: directory.whole(),
         }),
         None => None,
+    }
+}
+
+// Fills `into` with the bytes from `at` on of the file that was found under this name in this mount.
+fn read_from<F: Folder>(
+    folders: &mut [F],
+    mounted: &Mounted,
+    file: &FileRef,
+    name: &[u8],
+    at: u64,
+    into: &mut [u8],
+) -> Result<(), FolderFault>
+    requires inside { folder_of mounted.now < length folders.old }
+    requires read { IsDirectory (map F.files folders.old) mounted.now }
+    requires there { HasFile name.now file.now (mount_of (map F.files folders.old) mounted.now) }
+    requires within { file.now.offset + file.now.length ≤ file.now.whole }
+    requires range { at + length into.old ≤ file.now.length }
+    ensures filled { OnOk result (IsFilePart name.now at into.new (mount_of (map F.files folders.old) mounted.now)) }
+    ensures told { map F.files folders.new ≡ map F.files folders.old }
+    ensures cause { HasFolderCause (map F.folder_faults folders.old) (map F.folder_faults folders.new) result }
+    ensures calls { NoneFalls (map F.folder_calls folders.old) (map F.folder_calls folders.new) }
+{
+    let place = file.offset + at;
+    match mounted {
+        Mounted::Folder { folder } => read_in(folders, *folder, name, place, into),
+        Mounted::Pack { folder, pack, .. } => {
+            let name = name_of_pack(*pack);
+            read_in(folders, *folder, name.as_bytes(), place, into)
+        }
     }
 }
