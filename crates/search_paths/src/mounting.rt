@@ -1,5 +1,5 @@
 // Mounting a folder and its packs.
-ghost use Rattle.std.specs.Prelude.{◌≡◌, ◌<◌, ◌≤◌, ◌⊎◌, ◌++◌, All, [], Err, length, map, option_map, IfErr, IfOk, IfSome, IsErrOf, IsOkAnd, OnOk, OnErr};
+ghost use Rattle.std.specs.Prelude.{◌≡◌, ◌<◌, ◌≤◌, ◌⊎◌, ◌++◌, All, [], Err, length, map, option_map, IfErr, IfOk, IfSome, IsErrOf, IsOkAnd, OnOk, OnErr, reverse};
 ghost use Rattle.outside_io.specs.Files.{bytes_of};
 ghost use Rattle.pack_files.specs.Packs.{pack_of};
 ghost use Rattle.search_paths.specs.Answers.{AddsRows, IsCaused, IsMounted, IsOfFolder};
@@ -45,13 +45,14 @@ impl<F: Folder> Paths<F> {
     }
 }
 
-// Puts these mounts in front of the others.
+// Puts these mounts in front of the others, one after another.
 fn put_in_front(mounts: &mut Vec<Mounted>, own: Vec<Mounted>) -> Result<(), MountError>
-    ensures front { OnOk result (mounts.new.items ≡ own.items ++ mounts.old.items) }
+    ensures front { OnOk result (mounts.new.items ≡ reverse own.items ++ mounts.old.items) }
     ensures same { OnErr result (mounts.new.items ≡ mounts.old.items) }
     ensures error { IfErr result (λ error. error ≡ MountError.OutOfMemory) }
 {
     let mut own = own;
+    own.reverse();
     if own.append(mounts).is_err() {
         return Err(MountError::OutOfMemory);
     }
@@ -59,15 +60,15 @@ fn put_in_front(mounts: &mut Vec<Mounted>, own: Vec<Mounted>) -> Result<(), Moun
     Ok(())
 }
 
-// The mounts of the folder of this number: its packs, the last first, and then the folder itself.
+// The mounts of the folder of this number in the order of mounting: the folder itself, and then its packs.
 fn read_mounts<F: Folder>(
     alloc: Global,
     folder: &mut F,
     number: u32,
 ) -> Result<Vec<Mounted>, MountError>
-    ensures mounted { IfSome (F.files folder.old) (λ files. IfOk result (λ own. IsOkAnd (own_mounts number files) (λ mounts. map (mount_in files) own.items ≡ map Some mounts))) }
+    ensures mounted { IfSome (F.files folder.old) (λ files. IfOk result (λ own. IsOkAnd (own_mounts number files) (λ mounts. map (mount_in files) (reverse own.items) ≡ map Some mounts))) }
     ensures bad { IfSome (F.files folder.old) (λ files. IfErr result (λ error. IsMounted (own_mounts number files) [] [] (Err error))) }
-    ensures rows { IfOk result (λ own. AddsRows number [] (map row_of own.items)) }
+    ensures rows { IfOk result (λ own. AddsRows number [] (map row_of (reverse own.items))) }
     ensures own { IfOk result (λ own. All (IsOwn number (F.files folder.old)) own.items) }
     ensures error { IfErr result (IsOfFolder number) }
     ensures same { F.files folder.new ≡ F.files folder.old }
@@ -76,26 +77,24 @@ fn read_mounts<F: Folder>(
     ensures calls { F.folder_calls folder.old ≤ F.folder_calls folder.new }
 {
     let mut mounts = Vec::new(alloc);
-    if mounts.push(Mounted::Folder { folder: number }).is_err() {
+    let Ok(()) = mounts.push(Mounted::Folder { folder: number }) else {
         return Err(MountError::OutOfMemory);
-    }
+    };
     for pack in 0..MOST_PACKS {
-        match find_pack(alloc, folder, number, pack) {
-            Ok(Some(directory)) => {
-                let mounted = Mounted::Pack {
-                    folder: number,
-                    pack,
-                    directory,
-                };
-                if mounts.push(mounted).is_err() {
-                    return Err(MountError::OutOfMemory);
-                }
-            }
-            Ok(None) => break,
+        let directory = match find_pack(alloc, folder, number, pack) {
+            Ok(Some(directory)) => directory,
+            Ok(None) => return Ok(mounts),
             Err(error) => return Err(error),
-        }
+        };
+        let mounted = Mounted::Pack {
+            folder: number,
+            pack,
+            directory,
+        };
+        let Ok(()) = mounts.push(mounted) else {
+            return Err(MountError::OutOfMemory);
+        };
     }
-    mounts.reverse();
     Ok(mounts)
 }
 
