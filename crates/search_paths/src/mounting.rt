@@ -34,11 +34,11 @@ impl<F: Folder> Paths<F> {
         ensures kept { (IsErrOf result MountError.OutOfMemory × (folders_of self.new ≡ folders_of self.old)) ⊎ AddsFolder folder self.old self.new result }
     {
         let mut folder = folder;
-        let own = read_mounts(alloc, &mut folder, self.folders.len() as u32);
-        if self.folders.push(folder).is_err() {
+        let read = read_mounts(alloc, &mut folder, self.folders.len() as u32);
+        let Ok(()) = self.folders.push(folder) else {
             return Err(MountError::OutOfMemory);
-        }
-        match own {
+        };
+        match read {
             Ok(own) => put_in_front(&mut self.mounts, own),
             Err(error) => Err(error),
         }
@@ -53,9 +53,9 @@ fn put_in_front(mounts: &mut Vec<Mounted>, own: Vec<Mounted>) -> Result<(), Moun
 {
     let mut own = own;
     own.reverse();
-    if own.append(mounts).is_err() {
+    let Ok(()) = own.append(mounts) else {
         return Err(MountError::OutOfMemory);
-    }
+    };
     *mounts = own;
     Ok(())
 }
