@@ -1,7 +1,7 @@
 use Rattle.std.proofs.Common.{◌≡◌, ◌*◌, ◌<◌, ◌++◌, ◌∷◌, [], length, map, refl, ap, ◌∙◌, arith}
 use Rattle.std.proofs.lemmas.List.{map_push, length-map}
 use Rattle.search_paths.specs.Kept.{folder_of, IsDirectory}
-use Rattle.search_paths.proofs.Later.{folders_before, folders_own, directories_before, directories_own, front_or_before, few_own, few_in_front, as_before, as_before_where, mounted_told}
+use Rattle.search_paths.proofs.AddedFolder.{told_now, folders_told, folders_before, folders_own, directories_before, directories_own, front_or_before, few_own, few_in_front, as_before, as_before_where, mounted_told}
 use Rattle.search_paths.proofs.path.Paths.mount.Goals as goal
 
 pub invariant_of-self : goal.invariant_of-self
@@ -17,8 +17,8 @@ invariant_of-self-in-Err-read-2 g c =
     let files = g.F.Folder.files in
     let held = c.args.self.now.folders in
     let told = map files held.items in
-    let now = ap (map files) c.in-Ok.ensures.items ∙ map_push files held.items c.read_mounts-read.new.folder in
-    let before = folders_before held.len (length told) c.args.self.now.mounts.items (omega (arith, held.ok.0, length-map held.items files)) c.args.self.now.inside in
+    let now = told_now files held.items c.push.new.self.items c.read_mounts-read.new.folder c.in-Ok.ensures.items in
+    let before = folders_told files held.items held.len c.args.self.now.mounts.items held.ok.0 c.args.self.now.inside in
     record {
       most = omega arith;
       few = omega arith;
@@ -34,8 +34,8 @@ invariant_of-self-in-Ok-read g c =
     let own = c.in-Ok-read.own.items in
     let told = map files held.items in
     let last = files c.args.folder in
-    let now = ap (map files) c.in-Ok.ensures.items ∙ map_push files held.items c.read_mounts-read.new.folder ∙ ap (λ x. told ++ x ∷ []) c.in-Ok-read.ensures.same in
-    let before = folders_before held.len (length told) mounts (omega (arith, held.ok.0, length-map held.items files)) c.args.self.now.inside in
+    let now = rw c.in-Ok-read.ensures.same at (told_now files held.items c.push.new.self.items c.read_mounts-read.new.folder c.in-Ok.ensures.items) in
+    let before = folders_told files held.items held.len mounts held.ok.0 c.args.self.now.inside in
     let front = c.put_in_front.ensures.front in
     let same = c.put_in_front.ensures.same in
     let few = few_in_front c.put_in_front.result (33 * held.len) c.put_in_front.new.mounts.items own mounts front same (few_own c.len.result own c.in-Ok-read.ensures.rows) (omega (arith, c.args.self.now.mounts.ok.0)) in
@@ -53,8 +53,8 @@ returns-in-Ok-read-clause-mounted g c =
     let number : c.len.result ≡ length held.items = omega (arith, held.ok.0) in
     let told = map files held.items in
     let last = files c.args.folder in
-    let now = ap (map files) c.in-Ok.ensures.items ∙ map_push files held.items c.read_mounts-read.new.folder ∙ ap (λ x. told ++ x ∷ []) c.in-Ok-read.ensures.same in
-    let before = folders_before held.len (length told) c.args.self.now.mounts.items (omega (arith, held.ok.0, length-map held.items files)) c.args.self.now.inside in
+    let now = rw c.in-Ok-read.ensures.same at (told_now files held.items c.push.new.self.items c.read_mounts-read.new.folder c.in-Ok.ensures.items) in
+    let before = folders_told files held.items held.len c.args.self.now.mounts.items held.ok.0 c.args.self.now.inside in
     mounted_told c.put_in_front.result told last (map files c.push.new.self.items) (length held.items) c.in-Ok-read.own.items c.args.self.now.mounts.items c.put_in_front.new.mounts.items now (rw number at c.in-Ok-read.ensures.mounted) (omega (arith, length-map held.items files)) (rw number at c.in-Ok-read.ensures.own) before c.put_in_front.ensures.front c.put_in_front.ensures.error
 
 pub returns-in-Ok-read-clause-same : goal.returns-in-Ok-read-clause-same
@@ -62,8 +62,8 @@ returns-in-Ok-read-clause-same g c =
     let files = g.F.Folder.files in
     let held = c.args.self.now.folders in
     let told = map files held.items in
-    let now = ap (map files) c.in-Ok.ensures.items ∙ map_push files held.items c.read_mounts-read.new.folder in
-    let before = folders_before held.len (length told) c.args.self.now.mounts.items (omega (arith, held.ok.0, length-map held.items files)) c.args.self.now.inside in
+    let now = told_now files held.items c.push.new.self.items c.read_mounts-read.new.folder c.in-Ok.ensures.items in
+    let before = folders_told files held.items held.len c.args.self.now.mounts.items held.ok.0 c.args.self.now.inside in
     as_before_where c.put_in_front.result told (files c.read_mounts-read.new.folder) (map files c.push.new.self.items) c.args.self.now.mounts.items c.put_in_front.new.mounts.items now c.put_in_front.ensures.same before
 
 pub returns-in-Err-clause-same : goal.returns-in-Err-clause-same
@@ -71,6 +71,6 @@ returns-in-Err-clause-same g c =
     let files = g.F.Folder.files in
     let held = c.args.self.now.folders in
     let told = map files held.items in
-    let now = ap (map files) c.in-Ok.ensures.items ∙ map_push files held.items c.read_mounts-read.new.folder in
-    let before = folders_before held.len (length told) c.args.self.now.mounts.items (omega (arith, held.ok.0, length-map held.items files)) c.args.self.now.inside in
+    let now = told_now files held.items c.push.new.self.items c.read_mounts-read.new.folder c.in-Ok.ensures.items in
+    let before = folders_told files held.items held.len c.args.self.now.mounts.items held.ok.0 c.args.self.now.inside in
     as_before told (files c.read_mounts-read.new.folder) (map files c.push.new.self.items) c.args.self.now.mounts.items c.args.self.now.mounts.items now refl before

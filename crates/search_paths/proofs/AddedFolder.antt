@@ -2,7 +2,7 @@
 use Rattle.std.proofs.Common.{◌≡◌, ℕ, zero, suc, ◌<◌, ◌≤◌, ◌+◌, List, [], ◌∷◌, ◌++◌, length, map, reverse, get_or, Option, Some, None, Result, Ok, Err, OnOk, OnErr, IfErr, IsOkAnd, IfSome, All, refl, ap, sym, ◌∙◌, subst, arith}
 use Rattle.std.specs.Prelude.{slice_get, option_map, option_and_then}
 use Rattle.std.specs.Option.{option_flatten, ForSome}
-use Rattle.std.proofs.lemmas.List.{get_or_append_left, get_or_push, length-append, length-map, length-reverse, map-append}
+use Rattle.std.proofs.lemmas.List.{get_or_append_left, get_or_push, length-append, length-map, length-reverse, map-append, map_push}
 use Rattle.std.proofs.lemmas.List.Elements.{All-head, All-tail, All-append}
 use Rattle.std.proofs.lemmas.List.Sorted.{All-permutation, IsPermutation-reverse}
 use Rattle.std.proofs.lemmas.Option.{slice_get-get_or}
@@ -93,8 +93,16 @@ folder_own number last (kept.Pack folder pack directory) is = is.0
 pub folders_own : (number more : ℕ) (last : Option (List File)) (mounts : List Mounted) → number < more → All (IsOwn number last) mounts → All (λ mounted. folder_of mounted < more) mounts
 folders_own number more last mounts less own = λ k d below. omega (arith, folder_own number last (get_or mounts k d) (own k d below))
 
+-- what the folders tell
+pub told_now : {F : Type 0} (files : F → Option (List File)) (held now : List F) (folder : F) → now ≡ held ++ folder ∷ [] → map files now ≡ map files held ++ files folder ∷ []
+told_now files held now folder is = ap (map files) is ∙ map_push files held folder
+
 pub folders_before : (number more : ℕ) (mounts : List Mounted) → number ≤ more → All (λ mounted. folder_of mounted < number) mounts → All (λ mounted. folder_of mounted < more) mounts
 folders_before number more mounts less before = λ k d below. omega (arith, before k d below)
+
+pub folders_told : {F : Type 0} (files : F → Option (List File)) (held : List F) (number : ℕ) (mounts : List Mounted) → number ≡ length held → All (λ mounted. folder_of mounted < number) mounts
+    → All (λ mounted. folder_of mounted < length (map files held)) mounts
+folders_told files held number mounts is before = folders_before number (length (map files held)) mounts (omega (arith, is, length-map held files)) before
 
 length_packs : (folder number : ℕ) (counts : List ℕ) → length (pack_rows folder number counts) ≡ length counts
 length_packs folder number [] = refl
