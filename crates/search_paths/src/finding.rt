@@ -1,13 +1,20 @@
 // Finding a file on the path, and reading it.
-ghost use Rattle.std.specs.Prelude.{◌≡◌, ◌<◌, ◌≤◌, ◌+◌, ◌^◌, length, IfOk, IfSome, OnOk};
-ghost use Rattle.search_paths.specs.Answers.{first_of, HasFile, IsFileRef, IsFilePart};
+ghost use Rattle.std.specs.Prelude.{◌≡◌, ◌<◌, ◌≤◌, ◌+◌, ◌*◌, ◌^◌, All, ℕ, List, length, map, option_map, slice_get, IfOk, IfSome, OnOk};
+ghost use Rattle.std.specs.Option.{option_flatten};
+ghost use Rattle.search_paths.specs.Answers.{ref_of, first_of, HasFile, IsFileRef, IsFilePart};
 ghost use Rattle.search_paths.specs.Counts.{NoneFalls, HasFolderCause};
-ghost use Rattle.search_paths.specs.Path.{rows_of, mounts_of, mount_at, faults_of, calls_of, SamePath};
+ghost use Rattle.search_paths.specs.Kept.{folder_of, mount_of, IsDirectory};
+ghost use Rattle.search_paths.specs.Mounts.{file_in, packed_file};
+ghost use Rattle.search_paths.specs.Path.{all_some, rows_of, mounts_of, mount_at, faults_of, calls_of, SamePath};
 
 use crate::answers::{FileRef, FolderFault};
+use crate::folders::{length_in, read_in};
+use crate::mounted::Mounted;
+use crate::names::name_of_pack;
 use crate::path::Paths;
 use base_fields::GameName;
 use outside_io::Folder;
+use pack_files::Pack;
 
 impl<F: Folder> Paths<F> {
     /// The file of the first mount that has the name, or `None` exactly where no mount has it. A folder's fault comes only
@@ -20,7 +27,7 @@ impl<F: Folder> Paths<F> {
         ensures cause { HasFolderCause (faults_of self.old) (faults_of self.new) result }
         ensures calls { NoneFalls (calls_of self.old) (calls_of self.new) }
     {
-        unreachable!()
+        find_first(&mut self.folders, &self.mounts, name.bytes())
     }
 
     /// Fills `into` with the bytes from `at` on of the file that was found under this name. After an error `into` may hold
@@ -42,6 +49,110 @@ impl<F: Folder> Paths<F> {
         ensures cause { HasFolderCause (faults_of self.old) (faults_of self.new) result }
         ensures calls { NoneFalls (calls_of self.old) (calls_of self.new) }
     {
-        unreachable!()
+        let mounted = &self.mounts[file.mount as usize];
+        read_from(&mut self.folders, mounted, file, name.bytes(), at, into)
+    }
+}
+
+// The file of the first of these mounts that has the name.
+fn find_first<F: Folder>(
+    folders: &mut [F],
+    mounts: &[Mounted],
+    name: &[u8],
+) -> Result<Option<FileRef>, FolderFault>
+    requires few { length mounts.now ≤ 33 * 65536 }
+    requires inside { All (λ mounted. folder_of mounted < length folders.old) mounts.now }
+    requires read { All (IsDirectory (map F.files folders.old)) mounts.now }
+    ensures first { IfOk result (λ file. IfSome (all_some (map (mount_of (map F.files folders.old)) mounts.now)) (λ all. file ≡ first_of name.now all)) }
+    ensures there { IfOk result (λ file. IfSome file (λ found. HasFile name.now found (option_flatten (slice_get (map (mount_of (map F.files folders.old)) mounts.now) found.mount)))) }
+    ensures sized { IfOk result (λ file. IfSome file (IsFileRef (length mounts.now))) }
+    ensures told { map F.files folders.new ≡ map F.files folders.old }
+    ensures cause { HasFolderCause (map F.folder_faults folders.old) (map F.folder_faults folders.new) result }
+    ensures calls { NoneFalls (map F.folder_calls folders.old) (map F.folder_calls folders.new) }
+{
+    for number in 0..mounts.len() {
+        match find_in(folders, &mounts[number], number as u32, name) {
+            Ok(Some(file)) => return Ok(Some(file)),
+            Ok(None) => {}
+            Err(fault) => return Err(fault),
+        }
+    }
+    Ok(None)
+}
+
+// The file of this name in the mount of this number.
+fn find_in<F: Folder>(
+    folders: &mut [F],
+    mounted: &Mounted,
+    number: u32,
+    name: &[u8],
+) -> Result<Option<FileRef>, FolderFault>
+    requires inside { folder_of mounted.now < length folders.old }
+    requires read { IsDirectory (map F.files folders.old) mounted.now }
+    ensures found { IfOk result (λ file. IfSome (mount_of (map F.files folders.old) mounted.now) (λ mount. file ≡ option_map (ref_of number) (file_in name.now mount.files))) }
+    ensures number { IfOk result (λ file. IfSome file (λ found. found.mount ≡ number)) }
+    ensures sized { IfOk result (λ file. IfSome file (IsFileRef (number + 1))) }
+    ensures told { map F.files folders.new ≡ map F.files folders.old }
+    ensures cause { HasFolderCause (map F.folder_faults folders.old) (map F.folder_faults folders.new) result }
+    ensures calls { NoneFalls (map F.folder_calls folders.old) (map F.folder_calls folders.new) }
+{
+    match mounted {
+        Mounted::Folder { folder } => match length_in(folders, *folder, name) {
+            Ok(Some(length)) => Ok(Some(FileRef {
+                mount: number,
+                offset: 0,
+                length,
+                whole: length,
+            })),
+            Ok(None) => Ok(None),
+            Err(fault) => Err(fault),
+        },
+        Mounted::Pack { directory, .. } => Ok(find_packed(directory, number, name)),
+    }
+}
+
+// The file of this name in the pack of this mount.
+fn find_packed(directory: &Pack, number: u32, name: &[u8]) -> Option<FileRef>
+    ensures number { IfSome result (λ found. found.mount ≡ number) }
+    ensures sized { IfSome result (IsFileRef (number + 1)) }
+    ensures found { (bytes : List ℕ) → length bytes ≡ directory.now.whole → result ≡ option_map (ref_of number) (file_in name.now (map (packed_file bytes) directory.now.rows)) }
+{
+    match directory.entry(name) {
+        Some(entry) => Some(FileRef {
+            mount: number,
+            offset: u64::from(entry.offset),
+            length: u64::from(entry.length),
+            whole: directory.whole(),
+        }),
+        None => None,
+    }
+}
+
+// Fills `into` with the bytes from `at` on of the file that was found under this name in this mount.
+fn read_from<F: Folder>(
+    folders: &mut [F],
+    mounted: &Mounted,
+    file: &FileRef,
+    name: &[u8],
+    at: u64,
+    into: &mut [u8],
+) -> Result<(), FolderFault>
+    requires inside { folder_of mounted.now < length folders.old }
+    requires read { IsDirectory (map F.files folders.old) mounted.now }
+    requires there { HasFile name.now file.now (mount_of (map F.files folders.old) mounted.now) }
+    requires within { file.now.offset + file.now.length ≤ file.now.whole }
+    requires range { at + length into.old ≤ file.now.length }
+    ensures filled { OnOk result (IsFilePart name.now at into.new (mount_of (map F.files folders.old) mounted.now)) }
+    ensures told { map F.files folders.new ≡ map F.files folders.old }
+    ensures cause { HasFolderCause (map F.folder_faults folders.old) (map F.folder_faults folders.new) result }
+    ensures calls { NoneFalls (map F.folder_calls folders.old) (map F.folder_calls folders.new) }
+{
+    let place = file.offset + at;
+    match mounted {
+        Mounted::Folder { folder } => read_in(folders, *folder, name, place, into),
+        Mounted::Pack { folder, pack, .. } => {
+            let name = name_of_pack(*pack);
+            read_in(folders, *folder, name.as_bytes(), place, into)
+        }
     }
 }

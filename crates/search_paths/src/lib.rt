@@ -7,6 +7,7 @@
 
 mod answers;
 mod finding;
+mod folders;
 mod mounted;
 mod mounting;
 mod names;

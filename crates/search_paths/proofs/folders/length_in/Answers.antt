@@ -1,0 +1,21 @@
+use Rattle.std.proofs.Common.{arith}
+use Rattle.search_paths.proofs.Asked.{kept, risen, caused_ok, caused_err}
+use Rattle.search_paths.proofs.folders.length_in.Goals as goal
+
+pub returns-in-Ok-clause-told : goal.returns-in-Ok-clause-told
+returns-in-Ok-clause-told g c = kept _ _ c.index-folders-folder.result _ c.requires g.F.Folder.files c.len_of.ensures.same
+
+pub returns-in-Ok-clause-cause : goal.returns-in-Ok-clause-cause
+returns-in-Ok-clause-cause g c = caused_ok _ _ c.index-folders-folder.result _ c.requires g.F.Folder.folder_faults c.in-Ok.length c.len_of.ensures.cause.never_falls
+
+pub returns-in-Ok-clause-calls : goal.returns-in-Ok-clause-calls
+returns-in-Ok-clause-calls g c = risen _ _ c.index-folders-folder.result _ c.requires g.F.Folder.folder_calls (omega (arith, c.len_of.ensures.counted))
+
+pub returns-in-Err-clause-told : goal.returns-in-Err-clause-told
+returns-in-Err-clause-told g c = kept _ _ c.index-folders-folder.result _ c.requires g.F.Folder.files c.len_of.ensures.same
+
+pub returns-in-Err-clause-cause : goal.returns-in-Err-clause-cause
+returns-in-Err-clause-cause g c = caused_err _ _ c.index-folders-folder.result _ c.requires g.F.Folder.folder_faults c.len_of.ensures.cause.never_falls c.in-Err.ensures.cause.failed
+
+pub returns-in-Err-clause-calls : goal.returns-in-Err-clause-calls
+returns-in-Err-clause-calls g c = risen _ _ c.index-folders-folder.result _ c.requires g.F.Folder.folder_calls (omega (arith, c.len_of.ensures.counted))
