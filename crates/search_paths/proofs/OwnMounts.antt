@@ -50,10 +50,11 @@ made_next : (folder pack left : ℕ) (files : List File) (mounts : List Mounted)
     → HasNext folder pack (reverse made) (packs_from left (pack + 1) files) (bytes_of (pack_name pack) files) directory
     → AreMade folder files (pack + 1) left (mounts ++ kept.Pack folder pack directory ∷ [])
 made_next folder pack left files mounts directory made told all next =
-    let mount = pack_mount folder pack next.0 directory in
-    (made ++ mount ∷ [],
-    map_push (mount_in files) mounts (kept.Pack folder pack directory) ∙ ap (λ l. l ++ mount_in files (kept.Pack folder pack directory) ∷ []) told ∙ ap (λ m. map Some made ++ m ∷ []) (mount_read files folder pack next.0 directory next.1) ∙ sym (map_push Some made mount),
-    ap (in_front folder (pack + 1) (packs_from left (pack + 1) files)) (reverse-append made (mount ∷ [])) ∙ sym next.2 ∙ all)
+    let mount = pack_mount folder pack next.0 directory in (
+      made ++ mount ∷ [],
+      map_push (mount_in files) mounts (kept.Pack folder pack directory) ∙ ap (λ l. l ++ mount_in files (kept.Pack folder pack directory) ∷ []) told ∙ ap (λ m. map Some made ++ m ∷ []) (mount_read files folder pack next.0 directory next.1) ∙ sym (map_push Some made mount),
+      ap (in_front folder (pack + 1) (packs_from left (pack + 1) files)) (reverse-append made (mount ∷ [])) ∙ sym next.2 ∙ all,
+    )
 
 -- one more pack
 pub more_made : (folder pack left next : ℕ) (files : List File) (mounts : List Mounted) (directory : PackTable) → left ≡ suc next
@@ -117,10 +118,11 @@ rows_pushed folder number (first ∷ counts) count =
 -- one more row
 pub more_listed : (folder pack : ℕ) (mounts : List Mounted) (directory : PackTable) → AreListed folder pack mounts → AreListed folder (pack + 1) (mounts ++ kept.Pack folder pack directory ∷ [])
 more_listed folder pack mounts directory so_far =
-    let at : 0 + length so_far.0 ≡ pack = omega (arith, so_far.1) in
-    (so_far.0 ++ directory.count ∷ [],
-    omega (arith, length-append so_far.0 (directory.count ∷ []), so_far.1),
-    map_push row_of mounts (kept.Pack folder pack directory) ∙ ap (λ l. l ++ row.Pack folder pack directory.count ∷ []) so_far.2 ∙ ap (λ n. (row.Folder folder ∷ pack_rows folder 0 so_far.0) ++ row.Pack folder n directory.count ∷ []) (sym at) ∙ ap (λ l. row.Folder folder ∷ l) (sym (rows_pushed folder 0 so_far.0 directory.count)))
+    let at : 0 + length so_far.0 ≡ pack = omega (arith, so_far.1) in (
+      so_far.0 ++ directory.count ∷ [],
+      omega (arith, length-append so_far.0 (directory.count ∷ []), so_far.1),
+      map_push row_of mounts (kept.Pack folder pack directory) ∙ ap (λ l. l ++ row.Pack folder pack directory.count ∷ []) so_far.2 ∙ ap (λ n. (row.Folder folder ∷ pack_rows folder 0 so_far.0) ++ row.Pack folder n directory.count ∷ []) (sym at) ∙ ap (λ l. row.Folder folder ∷ l) (sym (rows_pushed folder 0 so_far.0 directory.count)),
+    )
 
 -- all rows from the path's front on
 pub all_listed : (folder pack : ℕ) (mounts : List Mounted) → pack ≤ 32 → AreListed folder pack mounts → AddsRows folder [] (map row_of (reverse mounts))

@@ -15,3 +15,6 @@ mod path;
 
 pub use answers::{FileRef, FolderFault, MountError, MountRow};
 pub use path::Paths;
+
+#[cfg(test)]
+mod mount_tests;
