@@ -17,4 +17,6 @@ pub use answers::{FileRef, FolderFault, MountError, MountRow};
 pub use path::Paths;
 
 #[cfg(test)]
-mod tests;
+mod find_tests;
+#[cfg(test)]
+mod mount_tests;

@@ -1,6 +1,6 @@
 use Rattle.std.proofs.Common.{◌<◌}
 use Rattle.std.specs.Prelude.{◌^◌, All, vec_len}
-use Rattle.search_paths.proofs.tests.folder.Given as goal
+use Rattle.search_paths.proofs.find_tests.folder.Given as goal
 
 -- no file is long
 abbrev pub invariant-loop-name : goal.invariant-loop-name

@@ -1,3 +1,4 @@
+// Tests of finding and reading.
 use super::*;
 use base_fields::game_name;
 use outside_io::{Folder, MemFile, MemFolder};
@@ -132,19 +133,6 @@ fn the_first_mount_with_the_name_counts(rt: HostRuntime) -> Result<(), Fail> {
             "{word:?} at {at}"
         );
     }
-    let rows = [
-        Some(MountRow::Folder { folder: 1 }),
-        Some(MountRow::Pack {
-            folder: 0,
-            pack: 0,
-            count: 3,
-        }),
-        Some(MountRow::Folder { folder: 0 }),
-        None,
-    ];
-    for (number, want) in (0..).zip(rows) {
-        assert_eq!(rt; paths.row(number), want, "{number}");
-    }
     Ok(())
 }
 
@@ -167,6 +155,19 @@ fn a_fault_is_of_the_folder_that_failed(rt: HostRuntime) -> Result<(), Fail> {
         Err(FolderFault { folder: 0 })
     );
     assert_eq!(rt; part(&mut paths, b"a.txt", 0, 1), Ok(Some(*b"a\0\0\0")));
-    assert_eq!(rt; paths.take_folder(1).faults_seen(), 1);
+    Ok(())
+}
+
+#[test]
+fn a_folder_that_failed_is_handed_back(rt: HostRuntime) -> Result<(), Fail> {
+    let alloc = rt.alloc();
+    let mut paths = Paths::create(alloc)?;
+    let answer = paths.mount(alloc, folder(alloc, &[], 0)?);
+    assert_eq!(rt; answer, Err(MountError::FolderFault { folder: 0 }));
+    assert_eq!(rt; paths.row(0), None);
+    if let Err(MountError::FolderFault { .. }) = answer {
+        let folder = paths.take_folder(0);
+        assert_eq!(rt; (folder.calls_seen(), folder.faults_seen()), (1, 1));
+    }
     Ok(())
 }
