@@ -1,34 +1,36 @@
 // Tests of mounting.
+ghost use Rattle.std.specs.Prelude.{◌<◌, ◌^◌, vec_len, IfOk};
+
 use super::*;
 use outside_io::{MemFile, MemFolder};
 use pack_files::PackFault;
 use std::alloc::{AllocError, Global};
 use std::test::Fail;
 
-// A pack with so many entries, which have no names.
-fn pack(alloc: Global, count: u8) -> Result<Vec<u8>, AllocError> {
+// The count of entries of a pack that ends within its header.
+const CUT: u8 = 99;
+
+// A pack of this number with so many entries, which have no names.
+fn pack(alloc: Global, number: u8, count: u8) -> Result<MemFile, AllocError>
+    ensures { IfOk result (λ file. vec_len file.bytes < 2 ^ 62) }
+{
     let size = 64 * u32::from(count);
     let mut bytes = Vec::from_slice(alloc, b"PACK\x0c\0\0\0")?;
-    bytes.extend_from_slice(&size.to_le_bytes())?;
-    bytes.extend_from_slice(&vec![in alloc; 0u8; size as usize]?)?;
-    Ok(bytes)
+    if count < CUT {
+        bytes.extend_from_slice(&size.to_le_bytes())?;
+        bytes.extend_from_slice(&vec![in alloc; 0u8; size as usize]?)?;
+    }
+    Ok(MemFile {
+        name: format!(in alloc; "pak{number}.pak")?.into_bytes(),
+        bytes,
+    })
 }
 
-// A folder of packs by their names and counts of entries, whose call of this number fails. A pack of 255 entries is cut off.
-fn folder(alloc: Global, packs: &[(&str, u8)], fails: u64) -> Result<MemFolder, AllocError> {
+// A folder of packs by their numbers and counts, whose call of this number fails.
+fn folder(alloc: Global, packs: &[(u8, u8)], fails: u64) -> Result<MemFolder, AllocError> {
     let mut files = Vec::new(alloc);
-    for (name, count) in packs {
-        let mut bytes = pack(alloc, *count)?;
-        if *count == 255 {
-            bytes.truncate(11);
-        }
-        if bytes.len() > 20_000 {
-            return Err(AllocError);
-        }
-        files.push(MemFile {
-            name: Vec::from_slice(alloc, name.as_bytes())?,
-            bytes,
-        })?;
+    for (number, count) in packs {
+        files.push(pack(alloc, *number, *count)?)?;
     }
     Ok(MemFolder::create(files, Vec::from_slice(alloc, &[fails])?))
 }
@@ -45,19 +47,17 @@ const fn packed(folder: u32, pack: u32, count: u32) -> Option<MountRow> {
     })
 }
 
-// What mounting a folder with two packs, and then this one, answers, and the rows then.
-fn second(
+// What mounting answers after a folder with two packs was mounted, and the rows then.
+fn mount_second(
     alloc: Global,
-    folder: MemFolder,
+    second: MemFolder,
 ) -> Result<(Result<(), MountError>, [Option<MountRow>; 6]), Fail> {
     let mut paths = Paths::create(alloc)?;
-    if let Err(error) = paths.mount(
-        alloc,
-        self::folder(alloc, &[("pak1.pak", 1), ("pak0.pak", 2)], 9)?,
-    ) {
+    let first = folder(alloc, &[(1, 1), (0, 2)], 9)?;
+    if let Err(error) = paths.mount(alloc, first) {
         return Err(Fail::from(error));
     }
-    let answer = paths.mount(alloc, folder);
+    let answer = paths.mount(alloc, second);
     let rows = [
         paths.row(0),
         paths.row(1),
@@ -72,38 +72,40 @@ fn second(
 #[test]
 fn the_packs_of_a_folder_stand_in_front_of_it(rt: HostRuntime) -> Result<(), Fail> {
     let alloc = rt.alloc();
-    let first = [packed(0, 1, 1), packed(0, 0, 2), plain(0)];
-    let cases: [(&[(&str, u8)], Result<(), MountError>, &[Option<MountRow>]); 6] = [
-        (&[], Ok(()), &[plain(1)]),
-        (&[("pak0.pak", 0)], Ok(()), &[packed(1, 0, 0), plain(1)]),
+    let [one, two, three] = [packed(0, 1, 1), packed(0, 0, 2), plain(0)];
+    let none = [plain(1), one, two, three, None, None];
+    let bad = Err(MountError::BadPack {
+        folder: 1,
+        pack: 1,
+        fault: PackFault::NotPack,
+    });
+    let cases: [(&[(u8, u8)], Result<(), MountError>, [Option<MountRow>; 6]); 6] = [
+        (&[], Ok(()), none),
+        (&[(1, 3)], Ok(()), none),
         (
-            &[("pak0.pak", 3), ("pak1.pak", 4)],
+            &[(0, 0)],
             Ok(()),
-            &[packed(1, 1, 4), packed(1, 0, 3), plain(1)],
+            [packed(1, 0, 0), plain(1), one, two, three, None],
         ),
         (
-            &[("pak0.pak", 3), ("pak2.pak", 255), ("pak0.pak", 255)],
+            &[(0, 3), (1, 4)],
             Ok(()),
-            &[packed(1, 0, 3), plain(1)],
+            [packed(1, 1, 4), packed(1, 0, 3), plain(1), one, two, three],
         ),
-        (&[("pak1.pak", 3), ("PAK0.PAK", 3)], Ok(()), &[plain(1)]),
         (
-            &[("pak0.pak", 3), ("pak1.pak", 255), ("pak2.pak", 255)],
-            Err(MountError::BadPack {
-                folder: 1,
-                pack: 1,
-                fault: PackFault::NotPack,
-            }),
-            &[],
+            &[(0, 3), (2, CUT), (0, CUT)],
+            Ok(()),
+            [packed(1, 0, 3), plain(1), one, two, three, None],
+        ),
+        (
+            &[(0, 3), (1, CUT), (2, CUT)],
+            bad,
+            [one, two, three, None, None, None],
         ),
     ];
-    for (packs, want, own) in cases {
-        let (answer, rows) = second(alloc, folder(alloc, packs, 9)?)?;
-        assert_eq!(rt; answer, want, "{packs:?}");
-        for (number, row) in rows.iter().enumerate() {
-            let want = own.iter().chain(&first).nth(number).copied().flatten();
-            assert_eq!(rt; *row, want, "{packs:?} {number}");
-        }
+    for (packs, answer, rows) in cases {
+        let mounted = mount_second(alloc, folder(alloc, packs, 9)?)?;
+        assert_eq!(rt; mounted, (answer, rows), "{packs:?}");
     }
     Ok(())
 }
@@ -111,23 +113,14 @@ fn the_packs_of_a_folder_stand_in_front_of_it(rt: HostRuntime) -> Result<(), Fai
 #[test]
 fn a_fault_leaves_the_path(rt: HostRuntime) -> Result<(), Fail> {
     let alloc = rt.alloc();
-    let packs = [("pak0.pak", 3), ("pak1.pak", 4)];
-    for fails in 0..8 {
-        let (answer, rows) = second(alloc, folder(alloc, &packs, fails)?)?;
-        let mounted = fails == 7;
-        let want = if mounted {
-            Ok(())
-        } else {
-            Err(MountError::FolderFault { folder: 1 })
-        };
-        assert_eq!(rt; answer, want, "{fails}");
-        let front = if mounted {
-            packed(1, 1, 4)
-        } else {
-            packed(0, 1, 1)
-        };
-        assert_eq!(rt; rows[0], front, "{fails}");
-        assert_eq!(rt; rows[3].is_some(), mounted, "{fails}");
+    let [one, two, three] = [packed(0, 1, 1), packed(0, 0, 2), plain(0)];
+    let fault = (
+        Err(MountError::FolderFault { folder: 1 }),
+        [one, two, three, None, None, None],
+    );
+    for fails in 0..7 {
+        let mounted = mount_second(alloc, folder(alloc, &[(0, 3), (1, 4)], fails)?)?;
+        assert_eq!(rt; mounted, fault, "{fails}");
     }
     Ok(())
 }
@@ -135,15 +128,12 @@ fn a_fault_leaves_the_path(rt: HostRuntime) -> Result<(), Fail> {
 #[test]
 fn no_more_than_32_packs_are_mounted(rt: HostRuntime) -> Result<(), Fail> {
     let alloc = rt.alloc();
-    let mut files = Vec::new(alloc);
+    let mut packs = [(0, 0); 33];
     for number in 0..33 {
-        files.push(MemFile {
-            name: format!(in alloc; "pak{number}.pak")?.into_bytes(),
-            bytes: Vec::from_slice(alloc, b"PACK\x0c\0\0\0\0\0\0\0")?,
-        })?;
+        packs[usize::from(number)].0 = number;
     }
     let mut paths = Paths::create(alloc)?;
-    if let Err(error) = paths.mount(alloc, MemFolder::create(files, Vec::new(alloc))) {
+    if let Err(error) = paths.mount(alloc, folder(alloc, &packs, 999)?) {
         return Err(Fail::from(error));
     }
     for number in 0..32 {
