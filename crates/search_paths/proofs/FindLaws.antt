@@ -1,6 +1,6 @@
 -- Laws of the mounts of a path, and of the file that is found in them.
-use Rattle.std.proofs.Common.{◌≡◌, ℕ, zero, suc, ◌+◌, ◌-◌, ◌<◌, ◌≤◌, Bool, true, false, nat_le, cond, List, [], ◌∷◌, length, map, take, drop, Option, Some, None, IfSome, refl, sym, ap, subst, ◌∙◌, add-one, length-drop, length-take, arith}
-use Rattle.std.specs.Prelude.{slice_get, slice_range, option_map, option_and_then, IsSomeAnd, min}
+use Rattle.std.proofs.Common.{◌≡◌, ℕ, zero, suc, ◌+◌, ◌<◌, ◌≤◌, Bool, true, false, nat_le, cond, List, [], ◌∷◌, length, map, Option, Some, None, IfSome, refl, sym, ap, subst, ◌∙◌, arith}
+use Rattle.std.specs.Prelude.{slice_get, slice_range, option_map, option_and_then, IsSomeAnd}
 use Rattle.std.specs.Option.{option_flatten, option_or}
 use Rattle.std.proofs.lemmas.Bool.Decides.{nat_tests}
 use Rattle.std.proofs.lemmas.Grind.{common_steps}
@@ -9,12 +9,10 @@ use Rattle.outside_io.specs.Files.{File, bytes_of}
 use Rattle.outside_io.specs.declared.outside.Folder.{Ghosts}
 use Rattle.pack_files.specs.declared.entries.Entry.{Entry}
 use Rattle.pack_files.specs.Packs.{Row, entry_of}
-use Rattle.search_paths.specs.declared.answers.FileRef.{FileRef}
 use Rattle.search_paths.specs.declared.mounted.Mounted.{Mounted}
 use Rattle.search_paths.specs.declared.mounted.Mounted.TheVariants as kept
 use Rattle.search_paths.specs.declared.path.Paths.{Paths}
-use Rattle.search_paths.specs.Answers.{ref_of, first_of}
-use Rattle.search_paths.specs.Kept.{told_at, mount_of, row_of}
+use Rattle.search_paths.specs.Kept.{told_at, mount_of}
 use Rattle.search_paths.specs.Mounts.{FileAt, Mount, cut, file_in, file_within, whole_file, packed_file, folder_mount, pack_mount, pack_name, find_from, find_in}
 use Rattle.search_paths.specs.Path.{all_some, told_of, rows_of, told_mounts, mount_at, mounts_of}
 use Rattle.search_paths.proofs.Looking.{file_in-folder, file_in-pack}

@@ -1,5 +1,5 @@
 -- The counts of folders, each at its number.
-use Rattle.std.specs.Prelude.{◌≡◌, ℕ, ◌<◌, ◌≤◌, List, length, slice_index, Result, IfErr}
+use Rattle.std.specs.Prelude.{ℕ, ◌<◌, ◌≤◌, List, length, slice_index, Result, IfErr}
 use Rattle.outside_io.specs.Causes.{Rose}
 use Rattle.search_paths.specs.declared.answers.FolderFault.{FolderFault}
 

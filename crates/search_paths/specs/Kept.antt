@@ -1,5 +1,5 @@
 -- What is kept of mounts, and what it means by what the folders tell.
-use Rattle.std.specs.Prelude.{◌≡◌, ℕ, ◌<◌, ⊤, List, [], ◌∷◌, length, map, reverse, slice_get, Option, Some, None, option_map, option_and_then, Ok}
+use Rattle.std.specs.Prelude.{◌≡◌, ℕ, List, slice_get, Option, Some, option_map, option_and_then, Ok}
 use Rattle.std.specs.Option.{option_flatten, ForSome}
 use Rattle.outside_io.specs.Files.{File, bytes_of}
 use Rattle.pack_files.specs.Packs.{PackTable, pack_of}

@@ -1,9 +1,8 @@
 -- Mounts: what has files by their names, and the path of them.
-use Rattle.std.specs.Prelude.{◌≡◌, ℕ, zero, suc, ◌+◌, ◌<◌, ◌≤◌, nat_le, if◌then◌else◌, List, [], ◌∷◌, ◌++◌, length, map, reverse, slice_get, slice_range, Option, Some, None, option_map, option_and_then, IfSome, Result, Ok, Err, bytes_eq, codes, decimal}
+use Rattle.std.specs.Prelude.{ℕ, zero, suc, ◌+◌, nat_le, if◌then◌else◌, List, [], ◌∷◌, ◌++◌, length, map, slice_range, Option, Some, None, option_map, Result, Ok, Err, bytes_eq, codes, decimal}
 use Rattle.std.specs.Option.{option_or}
 use Rattle.std.specs.Result.{result_map_both}
 use Rattle.outside_io.specs.Files.{File, bytes_of}
-use Rattle.pack_files.specs.declared.entries.Entry.{Entry}
 use Rattle.pack_files.specs.declared.faults.PackFault.{PackFault}
 use Rattle.pack_files.specs.Packs.{Row, PackTable, pack_of}
 use Rattle.search_paths.specs.declared.answers.MountRow.{MountRow}

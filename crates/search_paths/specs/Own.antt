@@ -1,5 +1,5 @@
 -- What is kept of a folder while it is mounted, by what it tells itself.
-use Rattle.std.specs.Prelude.{◌≡◌, ℕ, ⊤, List, Option, Some, None, option_map, IfSome, Result, Ok, Err}
+use Rattle.std.specs.Prelude.{◌≡◌, ℕ, ⊤, List, Option, Some, option_map, IfSome, Result, Ok, Err}
 use Rattle.outside_io.specs.Files.{File, bytes_of}
 use Rattle.pack_files.specs.declared.faults.PackFault.{PackFault}
 use Rattle.pack_files.specs.Packs.{PackTable, pack_of}

@@ -1,5 +1,5 @@
 -- The path: its folders with what they tell and their counts, and its mounts, from its front on.
-use Rattle.std.specs.Prelude.{◌≡◌, ◌≤◌, ℕ, List, [], ◌∷◌, ◌++◌, Result, map, slice_get, Option, Some, None, option_map, option_and_then}
+use Rattle.std.specs.Prelude.{◌≡◌, ◌≤◌, ℕ, List, [], ◌∷◌, ◌++◌, Result, map, slice_get, Option, Some, option_map, option_and_then}
 use Rattle.std.specs.Option.{option_flatten}
 use Rattle.outside_io.specs.Files.{File}
 use Rattle.outside_io.specs.declared.outside.Folder.{Ghosts}

@@ -1,5 +1,5 @@
-use Rattle.std.proofs.Common.{◌≡◌, ◌*◌, ◌<◌, ◌++◌, ◌∷◌, [], length, map, refl, ap, ◌∙◌, arith}
-use Rattle.std.proofs.lemmas.List.{map_push, length-map}
+use Rattle.std.proofs.Common.{◌≡◌, ◌*◌, ◌<◌, ◌++◌, ◌∷◌, [], length, map, refl, arith}
+use Rattle.std.proofs.lemmas.List.{length-map}
 use Rattle.search_paths.specs.Kept.{folder_of, IsDirectory}
 use Rattle.search_paths.proofs.AddedFolder.{told_now, folders_told, folders_before, folders_own, directories_before, directories_own, front_or_before, few_own, few_in_front, as_before, as_before_where, mounted_told}
 use Rattle.search_paths.proofs.path.Paths.mount.Goals as goal

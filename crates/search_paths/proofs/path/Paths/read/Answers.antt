@@ -1,9 +1,9 @@
-use Rattle.std.proofs.Common.{rules, ◌≡◌, ◌<◌, length, map, ap, subst, sym, ◌∙◌, arith}
+use Rattle.std.proofs.Common.{rules, ◌<◌, length, map, ap, subst, sym, ◌∙◌, arith}
 use Rattle.std.specs.Prelude.{All, OnOk}
 use Rattle.std.proofs.lemmas.List.{with_items_is, places, length-map}
 use Rattle.search_paths.specs.Answers.{IsFilePart}
-use Rattle.search_paths.specs.Kept.{mount_of, row_of, IsDirectory}
-use Rattle.search_paths.specs.Path.{mount_at, told_of}
+use Rattle.search_paths.specs.Kept.{row_of, IsDirectory}
+use Rattle.search_paths.specs.Path.{told_of}
 use Rattle.search_paths.proofs.First.{mount_read}
 use Rattle.search_paths.proofs.path.Paths.read.Goals as goal
 
