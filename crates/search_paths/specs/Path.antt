@@ -1,5 +1,5 @@
 -- The path: its folders with what they tell and their counts, and its mounts, from its front on.
-use Rattle.std.specs.Prelude.{◌≡◌, ◌≤◌, ℕ, List, [], ◌∷◌, ◌++◌, Result, map, slice_get, Option, Some, None, option_map, option_and_then}
+use Rattle.std.specs.Prelude.{◌≡◌, ◌≤◌, ℕ, List, [], ◌∷◌, ◌++◌, Result, map, slice_get, Option, Some, option_map, option_and_then}
 use Rattle.std.specs.Option.{option_flatten}
 use Rattle.outside_io.specs.Files.{File}
 use Rattle.outside_io.specs.declared.outside.Folder.{Ghosts}
@@ -51,8 +51,9 @@ pub record SamePath {F : Type 0} {g : Ghosts F} (before after : Paths F g) : Typ
   pub mounts : told_mounts after ≡ told_mounts before
   pub told : told_of after ≡ told_of before
 
--- A folder is kept last: this is what it is now. It tells what it told, its counts never fall, and a fault of it has its cause.
-pub record AddsFolder {F : Type 0} {g : Ghosts F} (folder : F) (before after : Paths F g) (result : Result (Unit {0}) MountError) : Type 0 where
+-- A folder is kept last: this is what it is now. It tells what it told, its counts don't fall, and a fault has its cause.
+pub record AddsFolder {F : Type 0} {g : Ghosts F} (folder : F) (before after : Paths F g)
+    (result : Result (Unit {0}) MountError) : Type 0 where
   pub now : F
   pub last : folders_of after ≡ folders_of before ++ now ∷ []
   pub told : g.files now ≡ g.files folder

@@ -1,5 +1,6 @@
 // Finding a file on the path, and reading it.
-ghost use Rattle.std.specs.Prelude.{◌≡◌, ◌<◌, ◌≤◌, ◌+◌, ◌*◌, ◌^◌, All, ℕ, List, length, map, option_map, slice_get, IfOk, IfSome, OnOk};
+ghost use Rattle.std.specs.Prelude.{◌≡◌, ◌<◌, ◌≤◌, ◌+◌, ◌*◌, ◌^◌, ℕ, List, length, map, option_map, slice_get};
+ghost use Rattle.std.specs.Prelude.{All, IfOk, IfSome, OnOk};
 ghost use Rattle.std.specs.Option.{option_flatten};
 ghost use Rattle.search_paths.specs.Answers.{ref_of, first_of, HasFile, IsFileRef, IsFilePart};
 ghost use Rattle.search_paths.specs.Counts.{NoneFalls, HasFolderCause};
@@ -8,8 +9,9 @@ ghost use Rattle.search_paths.specs.Mounts.{file_in, packed_file};
 ghost use Rattle.search_paths.specs.Path.{all_some, rows_of, mounts_of, mount_at, faults_of, calls_of, SamePath};
 
 use crate::answers::{FileRef, FolderFault};
-use crate::folders::length_in;
+use crate::folders::{length_in, read_in};
 use crate::mounted::Mounted;
+use crate::names::name_of_pack;
 use crate::path::Paths;
 use base_fields::GameName;
 use outside_io::Folder;
@@ -20,7 +22,8 @@ impl<F: Folder> Paths<F> {
     /// where it is counted.
     pub fn find(&mut self, name: &GameName) -> Result<Option<FileRef>, FolderFault>
         ensures first { IfOk result (λ file. IfSome (mounts_of self.old) (λ mounts. file ≡ first_of name.now mounts)) }
-        ensures there { IfOk result (λ file. IfSome file (λ found. HasFile name.now found (mount_at found.mount self.old))) }
+        ensures there { IfOk result (λ file.
+            IfSome file (λ found. HasFile name.now found (mount_at found.mount self.old))) }
         ensures sized { IfOk result (λ file. IfSome file (IsFileRef (length (rows_of self.old)))) }
         ensures same { SamePath self.old self.new }
         ensures cause { HasFolderCause (faults_of self.old) (faults_of self.new) result }
@@ -48,7 +51,8 @@ impl<F: Folder> Paths<F> {
         ensures cause { HasFolderCause (faults_of self.old) (faults_of self.new) result }
         ensures calls { NoneFalls (calls_of self.old) (calls_of self.new) }
     {
-        unreachable!()
+        let mounted = &self.mounts[file.mount as usize];
+        read_from(&mut self.folders, mounted, file, name.bytes(), at, into)
     }
 }
 
@@ -61,8 +65,10 @@ fn find_first<F: Folder>(
     requires few { length mounts.now ≤ 33 * 65536 }
     requires inside { All (λ mounted. folder_of mounted < length folders.old) mounts.now }
     requires read { All (IsDirectory (map F.files folders.old)) mounts.now }
-    ensures first { IfOk result (λ file. IfSome (all_some (map (mount_of (map F.files folders.old)) mounts.now)) (λ all. file ≡ first_of name.now all)) }
-    ensures there { IfOk result (λ file. IfSome file (λ found. HasFile name.now found (option_flatten (slice_get (map (mount_of (map F.files folders.old)) mounts.now) found.mount)))) }
+    ensures first { IfOk result (λ file. IfSome (all_some (map (mount_of (map F.files folders.old)) mounts.now)) (λ all.
+        file ≡ first_of name.now all)) }
+    ensures there { IfOk result (λ file. IfSome file (λ found.
+        HasFile name.now found (option_flatten (slice_get (map (mount_of (map F.files folders.old)) mounts.now) found.mount)))) }
     ensures sized { IfOk result (λ file. IfSome file (IsFileRef (length mounts.now))) }
     ensures told { map F.files folders.new ≡ map F.files folders.old }
     ensures cause { HasFolderCause (map F.folder_faults folders.old) (map F.folder_faults folders.new) result }
@@ -87,7 +93,8 @@ fn find_in<F: Folder>(
 ) -> Result<Option<FileRef>, FolderFault>
     requires inside { folder_of mounted.now < length folders.old }
     requires read { IsDirectory (map F.files folders.old) mounted.now }
-    ensures found { IfOk result (λ file. IfSome (mount_of (map F.files folders.old) mounted.now) (λ mount. file ≡ option_map (ref_of number) (file_in name.now mount.files))) }
+    ensures found { IfOk result (λ file. IfSome (mount_of (map F.files folders.old) mounted.now) (λ mount.
+        file ≡ option_map (ref_of number) (file_in name.now mount.files))) }
     ensures number { IfOk result (λ file. IfSome file (λ found. found.mount ≡ number)) }
     ensures sized { IfOk result (λ file. IfSome file (IsFileRef (number + 1))) }
     ensures told { map F.files folders.new ≡ map F.files folders.old }
@@ -113,7 +120,8 @@ fn find_in<F: Folder>(
 fn find_packed(directory: &Pack, number: u32, name: &[u8]) -> Option<FileRef>
     ensures number { IfSome result (λ found. found.mount ≡ number) }
     ensures sized { IfSome result (IsFileRef (number + 1)) }
-    ensures found { (bytes : List ℕ) → length bytes ≡ directory.now.whole → result ≡ option_map (ref_of number) (file_in name.now (map (packed_file bytes) directory.now.rows)) }
+    ensures found { (bytes : List ℕ) → length bytes ≡ directory.now.whole
+        → result ≡ option_map (ref_of number) (file_in name.now (map (packed_file bytes) directory.now.rows)) }
 {
     match directory.entry(name) {
         Some(entry) => Some(FileRef {
@@ -123,5 +131,34 @@ fn find_packed(directory: &Pack, number: u32, name: &[u8]) -> Option<FileRef>
             whole: directory.whole(),
         }),
         None => None,
+    }
+}
+
+// Fills `into` with the bytes from `at` on of the file that was found under this name in this mount.
+fn read_from<F: Folder>(
+    folders: &mut [F],
+    mounted: &Mounted,
+    file: &FileRef,
+    name: &[u8],
+    at: u64,
+    into: &mut [u8],
+) -> Result<(), FolderFault>
+    requires inside { folder_of mounted.now < length folders.old }
+    requires read { IsDirectory (map F.files folders.old) mounted.now }
+    requires there { HasFile name.now file.now (mount_of (map F.files folders.old) mounted.now) }
+    requires within { file.now.offset + file.now.length ≤ file.now.whole }
+    requires range { at + length into.old ≤ file.now.length }
+    ensures filled { OnOk result (IsFilePart name.now at into.new (mount_of (map F.files folders.old) mounted.now)) }
+    ensures told { map F.files folders.new ≡ map F.files folders.old }
+    ensures cause { HasFolderCause (map F.folder_faults folders.old) (map F.folder_faults folders.new) result }
+    ensures calls { NoneFalls (map F.folder_calls folders.old) (map F.folder_calls folders.new) }
+{
+    let place = file.offset + at;
+    match mounted {
+        Mounted::Folder { folder } => read_in(folders, *folder, name, place, into),
+        Mounted::Pack { folder, pack, .. } => {
+            let name = name_of_pack(*pack);
+            read_in(folders, *folder, name.as_bytes(), place, into)
+        }
     }
 }

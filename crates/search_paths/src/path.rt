@@ -1,5 +1,6 @@
 // The path, and what it lists.
-ghost use Rattle.std.specs.Prelude.{◌≡◌, ◌<◌, ◌≤◌, ◌*◌, All, [], Some, length, map, option_map, slice_get, vec_len, IfOk, IfSome};
+ghost use Rattle.std.specs.Prelude.{◌≡◌, ◌<◌, ◌≤◌, ◌*◌, [], Some, length, map, option_map, slice_get, vec_len};
+ghost use Rattle.std.specs.Prelude.{All, IfOk, IfSome};
 ghost use Rattle.search_paths.specs.Kept.{folder_of, IsDirectory};
 
 use crate::answers::MountRow;
@@ -37,7 +38,8 @@ impl<F: Folder> Paths<F> {
     /// How the mount of this number is listed. The front of the path has the number 0.
     pub fn row(&self, number: u32) -> Option<MountRow>
         ensures row { result ≡ slice_get (rows_of self.now) number }
-        ensures mount { IfSome (mounts_of self.now) (λ mounts. result ≡ option_map (λ mount. mount.row) (slice_get mounts number)) }
+        ensures mount { IfSome (mounts_of self.now) (λ mounts.
+            result ≡ option_map (λ mount. mount.row) (slice_get mounts number)) }
         ensures few { length (rows_of self.now) ≤ 33 * 65536 }
     {
         match self.mounts.get(number as usize) {

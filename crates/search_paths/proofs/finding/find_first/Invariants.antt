@@ -10,5 +10,5 @@ invariant-loop-number g l = record {
   told : map g.F.Folder.files l.folders ≡ map g.F.Folder.files l.initial.folders;
   faults : NoneFalls (map g.F.Folder.folder_faults l.initial.folders) (map g.F.Folder.folder_faults l.folders);
   calls : NoneFalls (map g.F.Folder.folder_calls l.initial.folders) (map g.F.Folder.folder_calls l.folders);
-  before : NoneBefore l.name (map (mount_of (map g.F.Folder.files l.initial.folders)) l.mounts) l.number
+  before : NoneBefore l.name (map (mount_of (map g.F.Folder.files l.initial.folders)) l.mounts) l.number;
 }
