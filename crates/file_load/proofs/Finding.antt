@@ -1,16 +1,18 @@
 -- What finding the file of a load tells, where the folders of the path tell their files.
-use Rattle.std.proofs.Common.{◌≡◌, ℕ, ◌+◌, ◌<◌, ◌≤◌, List, length, map, Option, Some, None, IfSome, Result, Ok, Err, refl, sym, ap, subst, ◌∙◌, arith}
+use Rattle.std.proofs.Common.{◌≡◌, ℕ, ◌+◌, ◌<◌, ◌≤◌, List, ◌++◌, length, map, Option, Some, None, IfSome, IfOk, Result, Ok, Err, refl, sym, ap, subst, ◌∙◌, arith}
+use Rattle.std.specs.Prelude.{slice_range, IsSomeAnd}
 use Rattle.std.specs.Option.{ok_or}
+use Rattle.std.proofs.lemmas.Grind.{common_steps}
 use Rattle.outside_io.specs.Files.{File}
 use Rattle.search_paths.specs.declared.answers.FileRef.{FileRef}
 use Rattle.search_paths.specs.declared.mounted.Mounted.{Mounted}
-use Rattle.search_paths.specs.Answers.{ref_of, first_of}
+use Rattle.search_paths.specs.Answers.{ref_of, first_of, IsFilePart}
 use Rattle.search_paths.specs.Kept.{mount_of}
-use Rattle.search_paths.specs.Mounts.{FileAt, Mount, find_in}
+use Rattle.search_paths.specs.Mounts.{FileAt, Mount, file_in, find_in}
 use Rattle.search_paths.specs.Path.{all_some}
 use Rattle.file_load.specs.Loads.{Load, Beyond, sought}
 use Rattle.file_load.specs.Files.{Finds}
-use Rattle.search_paths.proofs.FindLaws.{IsCut, IsFirstFile, first_file, cut_inside, cut_outside}
+use Rattle.search_paths.proofs.FindLaws.{IsCut, IsFirstFile, number_of_path, first_file, cut_inside, cut_outside}
 
 module _ (told : List (Option (List File))) (path : List Mounted) (name : List ℕ) where
   abbrev mounts : Option (List Mount)
@@ -47,3 +49,31 @@ module _ (told : List (Option (List File))) (path : List Mounted) (name : List �
             let ends : at.offset + at.size ≤ at.whole = omega (arith, inside, ap (λ (r : FileRef). r.whole) ref, ap (λ (r : FileRef). r.offset) ref, ap (λ (r : FileRef). r.length) ref) in
             let has = cut_inside at cut ends in
             (has.0, given ∙ ap (λ bytes. ok_or bytes (Beyond (at.offset + at.size) at.whole)) has.1, sym (ap (λ (r : FileRef). r.length) ref) ∙ sym has.2)
+
+  -- the part that was read of a mount's file
+  part_of : (file : FileAt) (part : List ℕ) (mount : Option Mount) → IsSomeAnd mount (λ m. file_in name m.files ≡ Some file) → IsFilePart name 0 part mount → IfSome file.bytes (λ bytes. part ≡ slice_range bytes 0 (0 + length part))
+  part_of file part None has is = absurd has
+  part_of file part (Some mount) has is = rw has at is
+
+  all_of : (bytes part : List ℕ) → length part ≡ length bytes → part ≡ slice_range bytes 0 (0 + length part) → part ≡ bytes
+  all_of bytes part same is = is ∙ grind (arith, common_steps)
+
+  -- what was read of the first file of the name, up to its end
+  pub read_of : (file : FileRef) (part rest : List ℕ) → file.offset + file.length ≤ file.whole → length part ≡ file.length → IsFilePart name 0 part (number_of_path told path file.mount)
+      → IfSome mounts (λ all. first_of name all ≡ Some file → IfOk (sought (find_in name all)) (λ bytes. part ++ rest ≡ bytes ++ rest))
+  read_of file part rest inside sized is = by mounts refl
+    where
+      here : (at : FileAt) → ref_of file.mount at ≡ file → IsCut at → IfSome at.bytes (λ bytes. part ≡ slice_range bytes 0 (0 + length part)) → (given : Result (List ℕ) Load) → given ≡ ok_or at.bytes (Beyond (at.offset + at.size) at.whole)
+          → IfOk given (λ bytes. part ++ rest ≡ bytes ++ rest)
+      here at ref cut part_is given given_is =
+          let ends : at.offset + at.size ≤ at.whole = omega (arith, inside, ap (λ (r : FileRef). r.whole) ref, ap (λ (r : FileRef). r.offset) ref, ap (λ (r : FileRef). r.length) ref) in
+          let has = cut_inside at cut ends in
+          let same : part ≡ has.0 = all_of has.0 part (sized ∙ sym (ap (λ (r : FileRef). r.length) ref) ∙ sym has.2) (rw has.1 at part_is) in
+          let ok : given ≡ Ok has.0 = given_is ∙ ap (λ bytes. ok_or bytes (Beyond (at.offset + at.size) at.whole)) has.1 in
+          rw ok (ap (λ bytes. bytes ++ rest) same)
+
+      by : (given : Option (List Mount)) → mounts ≡ given → IfSome given (λ all. first_of name all ≡ Some file → IfOk (sought (find_in name all)) (λ bytes. part ++ rest ≡ bytes ++ rest))
+      by None none = tt
+      by (Some all) some = λ first.
+          let found = first_file told path name all file some first in
+          here found.file found.is found.cut (part_of found.file part _ found.has is) (sought (find_in name all)) (ap sought found.found)

@@ -113,7 +113,7 @@ pub record IsFirstFile (name : List ℕ) (mounts : List Mount) (ref : FileRef) (
   pub cut : IsCut file
 
 module _ (told : List (Option (List File))) (path : List Mounted) where
-  abbrev number_of_path : ℕ → Option Mount
+  abbrev pub number_of_path : ℕ → Option Mount
   number_of_path number = option_flatten (slice_get (map (mount_of told) path) number)
 
   pub first_file : (name : List ℕ) (mounts : List Mount) (ref : FileRef) → all_some (map (mount_of told) path) ≡ Some mounts → first_of name mounts ≡ Some ref
