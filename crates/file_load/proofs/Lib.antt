@@ -1,1 +1,4 @@
 pub mod Finding
+pub mod Loading
+pub mod Lows
+pub mod Overwriting
