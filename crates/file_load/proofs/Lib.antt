@@ -2,3 +2,4 @@ pub mod Finding
 pub mod Loading
 pub mod Lows
 pub mod Overwriting
+pub mod Temps
