@@ -1,141 +1,156 @@
--- The first file of a name, where the folders of the path tell their files.
-use Rattle.std.proofs.Common.{◌≡◌, ℕ, zero, suc, ◌+◌, ◌<◌, ◌≤◌, Bool, true, false, cond, List, [], ◌∷◌, length, map, Option, Some, None, refl, sym, ap, subst, ◌∙◌, arith}
-use Rattle.std.specs.Prelude.{slice_get, slice_range, option_map, option_and_then, bytes_eq, IsSomeAnd}
+-- Laws of the mounts of a path, and of the file that is found in them.
+use Rattle.std.proofs.Common.{◌≡◌, ℕ, zero, suc, ◌+◌, ◌-◌, ◌<◌, ◌≤◌, Bool, true, false, nat_le, cond, List, [], ◌∷◌, length, map, take, drop, Option, Some, None, IfSome, refl, sym, ap, subst, ◌∙◌, add-one, length-drop, length-take, arith}
+use Rattle.std.specs.Prelude.{slice_get, slice_range, option_map, option_and_then, IsSomeAnd, min}
 use Rattle.std.specs.Option.{option_flatten, option_or}
-use Rattle.std.proofs.lemmas.Bool.{le-leb, lt-leb}
+use Rattle.std.proofs.lemmas.Bool.Decides.{nat_tests}
 use Rattle.std.proofs.lemmas.Grind.{common_steps}
 use Rattle.std.proofs.lemmas.Option.{slice_get-map}
 use Rattle.outside_io.specs.Files.{File, bytes_of}
+use Rattle.outside_io.specs.declared.outside.Folder.{Ghosts}
+use Rattle.pack_files.specs.declared.entries.Entry.{Entry}
+use Rattle.pack_files.specs.Packs.{Row, entry_of}
 use Rattle.search_paths.specs.declared.answers.FileRef.{FileRef}
 use Rattle.search_paths.specs.declared.mounted.Mounted.{Mounted}
 use Rattle.search_paths.specs.declared.mounted.Mounted.TheVariants as kept
+use Rattle.search_paths.specs.declared.path.Paths.{Paths}
 use Rattle.search_paths.specs.Answers.{ref_of, first_of}
-use Rattle.search_paths.specs.Kept.{told_at, mount_of}
-use Rattle.search_paths.specs.Mounts.{FileAt, Named, Mount, cut, file_in, file_within, whole_file, packed_file, folder_mount, pack_mount, pack_name, find_from, find_in}
-use Rattle.search_paths.specs.Path.{all_some}
+use Rattle.search_paths.specs.Kept.{told_at, mount_of, row_of}
+use Rattle.search_paths.specs.Mounts.{FileAt, Mount, cut, file_in, file_within, whole_file, packed_file, folder_mount, pack_mount, pack_name, find_from, find_in}
+use Rattle.search_paths.specs.Path.{all_some, told_of, rows_of, told_mounts, mount_at, mounts_of}
+use Rattle.search_paths.proofs.Looking.{file_in-folder, file_in-pack}
+use Rattle.search_paths.proofs.Rows.{all_are_listed}
 
--- The mount of this number has this file of the name.
-record HasAt (name : List ℕ) (mounts : List Mount) (number : ℕ) (file : FileAt) : Type 0 where
-  mount : Mount
-  at : slice_get mounts number ≡ Some mount
-  has : file_in name mount.files ≡ Some file
-
--- a file that was found, where the first mount has this number
-record FoundFrom (number : ℕ) (name : List ℕ) (mounts : List Mount) (found : ℕ × FileAt) : Type 0 where
-  behind : ℕ
-  is : found.0 ≡ number + behind
-  has : HasAt name mounts behind found.1
-
-found_from : (number : ℕ) (name : List ℕ) (mounts : List Mount) (found : ℕ × FileAt) → find_from number name mounts ≡ Some found → FoundFrom number name mounts found
-found_from number name [] found is = absurd (cc)
-found_from number name (mount ∷ mounts) found is = by (file_in name mount.files) refl is (found_from (number + 1) name mounts found)
+-- where all are there, they are these
+pub each_is_there : {X : Type 0} (xs : List (Option X)) (ys : List X) → all_some xs ≡ Some ys → xs ≡ map Some ys
+each_is_there [] ys is = by ys is
   where
-    by : (here : Option FileAt) → file_in name mount.files ≡ here → option_or (option_map (λ file. (number, file)) here) (find_from (number + 1) name mounts) ≡ Some found
-        → (find_from (number + 1) name mounts ≡ Some found → FoundFrom (number + 1) name mounts found) → FoundFrom number name (mount ∷ mounts) found
-    by None here is rest =
-        let later = rest is in
-        record { behind = suc later.behind; is = omega (arith, later.is); has = record { mount = later.has.mount; at = later.has.at; has = later.has.has } }
-    by (Some file) here is rest =
-        let same : (number, file) ≡ found = cc in
-        record { behind = 0; is = omega (arith, ap (λ (f : ℕ × FileAt). f.0) same); has = record { mount = mount; at = refl; has = here ∙ ap (λ (f : ℕ × FileAt). Some f.1) same } }
-
-all_some_at : {X : Type 0} (given : List (Option X)) (all : List X) (number : ℕ) → all_some given ≡ Some all → option_flatten (slice_get given number) ≡ slice_get all number
-all_some_at [] all number is = let same : [] ≡ all = cc in ap (λ l. slice_get l number) same
-all_some_at (None ∷ given) all number is = absurd (cc)
-all_some_at {X = X} (Some x ∷ given) all number is = by (all_some given) is (λ xs. λ k. λ rest. all_some_at given xs k rest)
+    by : {X : Type 0} (ys : List X) → ◌≡◌ {A = Option (List X)} (Some []) (Some ys) → [] ≡ map Some ys
+    by [] same = refl
+    by (y ∷ ys) same = cc
+each_is_there (None ∷ xs) ys is = cc
+each_is_there {X} (Some x ∷ xs) ys is = by (all_some xs) (each_is_there xs) is
   where
-    at : (xs : List X) (k : ℕ) → x ∷ xs ≡ all → ((j : ℕ) → option_flatten (slice_get given j) ≡ slice_get xs j) → option_flatten (slice_get (Some x ∷ given) k) ≡ slice_get all k
-    at xs zero same each = ap (λ l. slice_get l 0) same
-    at xs (suc k) same each = each k ∙ ap (λ l. slice_get l (suc k)) same
+    by : (rest : Option (List X)) → ((more : List X) → rest ≡ Some more → xs ≡ map Some more) → option_map (λ more. x ∷ more) rest ≡ Some ys → Some x ∷ xs ≡ map Some ys
+    by None each same = cc
+    by (Some more) each same =
+        let here : x ∷ more ≡ ys = cc (same) in
+        ap (λ l. Some x ∷ l) (each more refl) ∙ ap (map Some) here
 
-    by : (rest : Option (List X)) → option_map (λ more. x ∷ more) rest ≡ Some all → ((xs : List X) (k : ℕ) → rest ≡ Some xs → option_flatten (slice_get given k) ≡ slice_get xs k)
-        → option_flatten (slice_get (Some x ∷ given) number) ≡ slice_get all number
-    by None is each = absurd (cc)
-    by (Some xs) is each = at xs number (cc) (λ j. each xs j refl)
+-- and the other way round
+pub all_are_there : {X : Type 0} (ys : List X) → all_some (map Some ys) ≡ Some ys
+all_are_there [] = refl
+all_are_there (y ∷ ys) = ap (option_map (λ more. y ∷ more)) (all_are_there ys)
 
--- A file is cut from what it lies in, as far as that reaches.
+-- A mount that is told is the one of its number.
+pub mount_at-told : {F : Type 0} {g : Ghosts F} (paths : Paths F g) (mounts : List Mount) (number : ℕ) → mounts_of paths ≡ Some mounts → mount_at number paths ≡ slice_get mounts number
+mount_at-told paths mounts number told =
+    ap (λ l. option_flatten (slice_get l number)) (each_is_there (told_mounts paths) mounts told) ∙ ap option_flatten (slice_get-map Some mounts number) ∙ flat (slice_get mounts number)
+  where
+    flat : (found : Option Mount) → option_flatten (option_map Some found) ≡ found
+    flat None = refl
+    flat (Some mount) = refl
+
+-- The rows of the path are those of its mounts.
+pub rows-told : {F : Type 0} {g : Ghosts F} (paths : Paths F g) (mounts : List Mount) → mounts_of paths ≡ Some mounts → map (λ mount. mount.row) mounts ≡ rows_of paths
+rows-told paths mounts told = subst (λ all. IfSome all (λ ms. map (λ mount. mount.row) ms ≡ rows_of paths)) told (all_are_listed (told_of paths) paths.mounts.items)
+
+-- The mount that is found has the file.
+pub record IsFound (name : List ℕ) (mounts : List Mount) (number : ℕ) (file : FileAt) : Type 0 where
+  pub mount : Mount
+  pub at : slice_get mounts number ≡ Some mount
+  pub has : file_in name mount.files ≡ Some file
+
+found_from : (from : ℕ) (name : List ℕ) (mounts : List Mount) (found : ℕ × FileAt) → find_from from name mounts ≡ Some found → (at : ℕ) × (found.0 ≡ from + at) × IsFound name mounts at found.1
+found_from from name [] found is = cc
+found_from from name (mount ∷ mounts) found is = by (file_in name mount.files) refl (found_from (from + 1) name mounts found) is
+  where
+    by : (here : Option FileAt) → file_in name mount.files ≡ here → (find_from (from + 1) name mounts ≡ Some found → (at : ℕ) × (found.0 ≡ from + 1 + at) × IsFound name mounts at found.1)
+        → option_or (option_map (λ file. (from, file)) here) (find_from (from + 1) name mounts) ≡ Some found → (at : ℕ) × (found.0 ≡ from + at) × IsFound name (mount ∷ mounts) at found.1
+    by None known rest same =
+        let later = rest same in
+        (suc later.0, omega (arith, later.1), record { mount = later.2.mount; at = later.2.at; has = later.2.has })
+    by (Some file) known rest same =
+        let is_pair : ◌≡◌ {A = ℕ × FileAt} (from, file) found = cc (same) in
+        let number : found.0 ≡ from + zero = omega (arith, ap (λ (p : ℕ × FileAt). p.0) is_pair) in
+        (zero, number, record { mount = mount; at = refl; has = known ∙ ap (λ (p : ℕ × FileAt). Some p.1) is_pair })
+
+pub find_in-found : (name : List ℕ) (mounts : List Mount) (found : ℕ × FileAt) → find_in name mounts ≡ Some found → IsFound name mounts found.0 found.1
+find_in-found name mounts found is =
+    let later = found_from 0 name mounts found is in
+    let number : later.0 ≡ found.0 = omega (arith, later.1) in
+    subst (λ n. IsFound name mounts n found.1) number later.2
+
+-- Each file of a mount is cut from a whole.
 pub record IsCut (file : FileAt) : Type 0 where
-  pub around : List ℕ
-  pub is : file ≡ file_within around file.offset file.size
+  pub bytes : List ℕ
+  pub is : file ≡ file_within bytes file.offset file.size
 
--- Where it ends inside, it has its bytes.
-pub cut_inside : (file : FileAt) → IsCut file → file.offset + file.size ≤ file.whole → (bytes : List ℕ) × (file.bytes ≡ Some bytes) × (length bytes ≡ file.size)
-cut_inside file given inside =
-    let within : file.offset + file.size ≤ length given.around = omega (arith, ap (λ (f : FileAt). f.whole) given.is) in
-    let part = slice_range given.around file.offset (file.offset + file.size) in
-    let sized : length part ≡ file.size = grind (arith, common_steps) in
-    let some : cut given.around file.offset file.size ≡ Some part = rw (le-leb (file.offset + file.size) (length given.around) within) refl in
-    (part, ap (λ (f : FileAt). f.bytes) given.is ∙ some, sized)
+cut_of : (bytes : List ℕ) (offset size : ℕ) (file : FileAt) → file_within bytes offset size ≡ file → IsCut file
+cut_of bytes offset size file is = subst IsCut is (record { bytes = bytes; is = refl })
 
--- Else it has none.
-pub cut_outside : (file : FileAt) → IsCut file → file.whole < file.offset + file.size → file.bytes ≡ None
-cut_outside file given past =
-    let beyond : length given.around < file.offset + file.size = omega (arith, ap (λ (f : FileAt). f.whole) given.is) in
-    ap (λ (f : FileAt). f.bytes) given.is ∙ rw (lt-leb (file.offset + file.size) (length given.around) beyond) refl
+cut_of_whole : (found : Option (List ℕ)) (file : FileAt) → option_map (λ bytes. file_within bytes 0 (length bytes)) found ≡ Some file → IsCut file
+cut_of_whole None file is = cc
+cut_of_whole (Some bytes) file is = cut_of bytes 0 (length bytes) file (cc (is))
 
-named-cut : {A : Type 0} (name : List ℕ) (named : A → Named) → ((x : A) → IsCut (named x).file) → (xs : List A) (file : FileAt) → file_in name (map named xs) ≡ Some file → IsCut file
-named-cut name named each [] file is = absurd (cc)
-named-cut name named each (x ∷ xs) file is = by (bytes_eq (named x).name name) is (named-cut name named each xs file)
+cut_of_entry : (bytes : List ℕ) (found : Option Entry) (file : FileAt) → option_map (λ (entry : Entry). file_within bytes entry.offset entry.length) found ≡ Some file → IsCut file
+cut_of_entry bytes None file is = cc
+cut_of_entry bytes (Some entry) file is = cut_of bytes entry.offset entry.length file (cc (is))
+
+cut_of_folder : (name : List ℕ) (folder : ℕ) (told : Option (List File)) (mount : Mount) (file : FileAt) → option_map (folder_mount folder) told ≡ Some mount → file_in name mount.files ≡ Some file → IsCut file
+cut_of_folder name folder None mount file is has = cc
+cut_of_folder name folder (Some files) mount file is has =
+    let same : folder_mount folder files ≡ mount = cc (is) in
+    let named : file_in name (map whole_file files) ≡ Some file = ap (λ (m : Mount). file_in name m.files) same ∙ has in
+    cut_of_whole (bytes_of name files) file (sym (file_in-folder name files) ∙ named)
+
+cut_of_pack : (name : List ℕ) (make : List ℕ → Mount) (rows : List Row) (packed : Option (List ℕ)) (mount : Mount) (file : FileAt) → ((bytes : List ℕ) → (make bytes).files ≡ map (packed_file bytes) rows) → option_map make packed ≡ Some mount → file_in name mount.files ≡ Some file → IsCut file
+cut_of_pack name make rows None mount file files is has = cc
+cut_of_pack name make rows (Some bytes) mount file files is has =
+    let same : make bytes ≡ mount = cc (is) in
+    let named : file_in name (map (packed_file bytes) rows) ≡ Some file = ap (file_in name) (sym (files bytes)) ∙ ap (λ (m : Mount). file_in name m.files) same ∙ has in
+    cut_of_entry bytes (entry_of name rows) file (sym (file_in-pack name bytes rows) ∙ named)
+
+cut_of_mount : (name : List ℕ) (told : List (Option (List File))) (mounted : Mounted) (mount : Mount) (file : FileAt) → mount_of told mounted ≡ Some mount → file_in name mount.files ≡ Some file → IsCut file
+cut_of_mount name told (kept.Folder folder) mount file is has = cut_of_folder name folder (told_at folder told) mount file is has
+cut_of_mount name told (kept.Pack folder pack directory) mount file is has =
+    cut_of_pack name (λ bytes. pack_mount folder pack bytes directory) directory.rows (option_and_then (bytes_of (pack_name pack)) (told_at folder told)) mount file (λ bytes. refl) is has
+
+cut_at : (name : List ℕ) (told : List (Option (List File))) (found : Option Mounted) (mount : Mount) (file : FileAt) → option_flatten (option_map (mount_of told) found) ≡ Some mount → file_in name mount.files ≡ Some file → IsCut file
+cut_at name told None mount file is has = cc
+cut_at name told (Some mounted) mount file is has = cut_of_mount name told mounted mount file is has
+
+pub mount_at-cut : {F : Type 0} {g : Ghosts F} (paths : Paths F g) (number : ℕ) (mount : Mount) (name : List ℕ) (file : FileAt) → mount_at number paths ≡ Some mount → file_in name mount.files ≡ Some file → IsCut file
+mount_at-cut paths number mount name file is has =
+    cut_at name (told_of paths) (slice_get paths.mounts.items number) mount file (ap option_flatten (sym (slice_get-map (mount_of (told_of paths)) paths.mounts.items number)) ∙ is) has
+
+pub found-cut : {F : Type 0} {g : Ghosts F} (paths : Paths F g) (mounts : List Mount) (name : List ℕ) (number : ℕ) (file : FileAt) → mounts_of paths ≡ Some mounts → IsFound name mounts number file → IsCut file
+found-cut paths mounts name number file told found = mount_at-cut paths number found.mount name file (mount_at-told paths mounts number told ∙ found.at) found.has
+
+-- Such a file has its bytes exactly where it lies inside the whole.
+length-part : (bytes : List ℕ) (offset size : ℕ) → offset + size ≤ length bytes → length (slice_range bytes offset (offset + size)) ≡ size
+length-part bytes offset size inside = grind (arith, common_steps)
+
+bytes_within : (bytes : List ℕ) (offset size : ℕ) → offset + size ≤ length bytes → IsSomeAnd (cut bytes offset size) (λ part. length part ≡ size)
+bytes_within bytes offset size inside = by (nat_le (offset + size) (length bytes)) refl
   where
-    by : (b : Bool) → cond b (Some (named x).file) (file_in name (map named xs)) ≡ Some file → (file_in name (map named xs) ≡ Some file → IsCut file) → IsCut file
-    by true is rest = let same : (named x).file ≡ file = cc in subst IsCut same (each x)
-    by false is rest = rest is
+    by : (b : Bool) → nat_le (offset + size) (length bytes) ≡ b → IsSomeAnd (cond b (Some (slice_range bytes offset (offset + size))) None) (λ part. length part ≡ size)
+    by true is = length-part bytes offset size inside
+    by false is = absurd (grind (arith, nat_tests))
 
--- every file of the mount
-AllCut : Mount → Type 0
-AllCut mount = (name : List ℕ) (file : FileAt) → file_in name mount.files ≡ Some file → IsCut file
-
-made-cut : {X : Type 0} (mount : Mount) (make : X → Mount) (given : Option X) → ((x : X) → AllCut (make x)) → option_map make given ≡ Some mount → AllCut mount
-made-cut mount make None each is = absurd (cc)
-made-cut mount make (Some x) each is = let same : make x ≡ mount = cc in subst AllCut same (each x)
-
-mount-cut : (told : List (Option (List File))) (mounted : Mounted) (mount : Mount) → mount_of told mounted ≡ Some mount → AllCut mount
-unfolding AllCut
-mount-cut told (kept.Folder folder) mount is =
-    made-cut mount (folder_mount folder) (told_at folder told) (λ files. λ name. named-cut name whole_file (λ file. record { around = file.bytes; is = refl }) files) is
-mount-cut told (kept.Pack folder pack directory) mount is =
-    made-cut mount (λ bytes. pack_mount folder pack bytes directory) (option_and_then (bytes_of (pack_name pack)) (told_at folder told))
-    (λ bytes. λ name. named-cut name (packed_file bytes) (λ row. record { around = bytes; is = refl }) directory.rows) is
-
-mount_at-cut : (told : List (Option (List File))) (mounts : List Mounted) (number : ℕ) (mount : Mount) → option_flatten (slice_get (map (mount_of told) mounts) number) ≡ Some mount → AllCut mount
-mount_at-cut told mounts number mount is = by (slice_get mounts number) (ap option_flatten (sym (slice_get-map (mount_of told) mounts number)) ∙ is)
+bytes_past : (bytes : List ℕ) (offset size : ℕ) → length bytes < offset + size → cut bytes offset size ≡ None
+bytes_past bytes offset size past = by (nat_le (offset + size) (length bytes)) refl
   where
-    by : (mounted : Option Mounted) → option_flatten (option_map (mount_of told) mounted) ≡ Some mount → AllCut mount
-    by None is = absurd (cc)
-    by (Some mounted) is = mount-cut told mounted mount is
+    by : (b : Bool) → nat_le (offset + size) (length bytes) ≡ b → cond b (Some (slice_range bytes offset (offset + size))) None ≡ None
+    by true is = absurd (grind (arith, nat_tests))
+    by false is = refl
 
--- The file that is found first stands in the mount of its number, and is cut from what it lies in.
-pub record IsFirstFile (name : List ℕ) (mounts : List Mount) (ref : FileRef) (mount : Option Mount) : Type 0 where
-  pub file : FileAt
-  pub found : find_in name mounts ≡ Some (ref.mount, file)
-  pub is : ref_of ref.mount file ≡ ref
-  pub has : IsSomeAnd mount (λ m. file_in name m.files ≡ Some file)
-  pub cut : IsCut file
+pub bytes-inside : (file : FileAt) → IsCut file → file.offset + file.size ≤ file.whole → IsSomeAnd file.bytes (λ bytes. length bytes ≡ file.size)
+bytes-inside file cut inside =
+    let whole : file.whole ≡ length cut.bytes = ap (λ (f : FileAt). f.whole) cut.is in
+    let bytes = bytes_within cut.bytes file.offset file.size (omega arith) in
+    subst (λ b. IsSomeAnd b (λ part. length part ≡ file.size)) (sym (ap (λ (f : FileAt). f.bytes) cut.is)) bytes
 
-module _ (told : List (Option (List File))) (path : List Mounted) where
-  abbrev pub number_of_path : ℕ → Option Mount
-  number_of_path number = option_flatten (slice_get (map (mount_of told) path) number)
-
-  pub first_file : (name : List ℕ) (mounts : List Mount) (ref : FileRef) → all_some (map (mount_of told) path) ≡ Some mounts → first_of name mounts ≡ Some ref
-      → IsFirstFile name mounts ref (number_of_path ref.mount)
-  unfolding AllCut
-  first_file name mounts ref all first = by (find_in name mounts) refl first
-    where
-      here : (found : ℕ × FileAt) → find_in name mounts ≡ Some found → HasAt name mounts found.0 found.1 → IsFirstFile name mounts (ref_of found.0 found.1) (number_of_path found.0)
-      here found is has =
-          let at : number_of_path found.0 ≡ Some has.mount = all_some_at (map (mount_of told) path) mounts found.0 all ∙ has.at in
-          record {
-            file = found.1;
-            found = is;
-            is = refl;
-            has = subst (λ m. IsSomeAnd m (λ (m : Mount). file_in name m.files ≡ Some found.1)) (sym at) has.has;
-            cut = mount_at-cut told path found.0 has.mount at name found.1 has.has;
-          }
-
-      by : (found : Option (ℕ × FileAt)) → find_in name mounts ≡ found → option_map (λ found. ref_of found.0 found.1) found ≡ Some ref → IsFirstFile name mounts ref (number_of_path ref.mount)
-      by None is first = absurd (cc)
-      by (Some found) is first =
-          let from = found_from 0 name mounts found is in
-          let same : ref_of found.0 found.1 ≡ ref = cc in
-          let place : from.behind ≡ found.0 = omega (arith, from.is) in
-          subst (λ (r : FileRef). IsFirstFile name mounts r (number_of_path r.mount)) same (here found is (subst (λ n. HasAt name mounts n found.1) place from.has))
+pub bytes-outside : (file : FileAt) → IsCut file → file.whole < file.offset + file.size → file.bytes ≡ None
+bytes-outside file cut past =
+    let whole : file.whole ≡ length cut.bytes = ap (λ (f : FileAt). f.whole) cut.is in
+    ap (λ (f : FileAt). f.bytes) cut.is ∙ bytes_past cut.bytes file.offset file.size (omega arith)

@@ -65,6 +65,11 @@ from_one v xs at x inside is =
 abbrev pub NoneBefore : List ℕ → List (Option Mount) → ℕ → Type 0
 NoneBefore name mounts number = (file : Option FileRef) → IsFirst number name (drop number mounts) file → IsFirst 0 name mounts file
 
+-- the mount that was read of the list
+pub mount_read : (told : List (Option (List File))) (mounts : List Mounted) (number : ℕ) (mounted : Mounted) → number < length mounts → mounted ≡ get_or mounts number mounted → option_flatten (slice_get (map (mount_of told) mounts) number) ≡ mount_of told mounted
+mount_read told mounts number mounted inside is =
+    ap option_flatten (slice_get-map (mount_of told) mounts number ∙ ap (option_map (mount_of told)) (slice_get_read mounts (length mounts) number mounted refl inside is))
+
 -- The folders tell what they told at first, and one mount was asked for the name.
 module _ (name : List ℕ) (told now : List (Option (List File))) (mounts : List Mounted) (number : ℕ) (mounted : Mounted) (same : now ≡ told) (inside : number < length mounts) (is : mounted ≡ get_or mounts number mounted) where
   asked : (file : Option FileRef) → IsIn number name (mount_of now mounted) file → IsIn number name (mount_of told mounted) file
@@ -86,9 +91,9 @@ module _ (name : List ℕ) (told now : List (Option (List File))) (mounts : List
 
   pub there : (file : FileRef) → IsIn number name (mount_of now mounted) (Some file) → file.mount ≡ number → HasFile name file (option_flatten (slice_get (map (mount_of told) mounts) file.mount))
   there file found at =
-      let here : slice_get (map (mount_of told) mounts) file.mount ≡ Some (mount_of told mounted) =
-      ap (slice_get (map (mount_of told) mounts)) at ∙ slice_get-map (mount_of told) mounts number ∙ ap (option_map (mount_of told)) (slice_get_read mounts (length mounts) number mounted refl inside is) in
-      subst (λ m. HasFile name file (option_flatten m)) (sym here) (has_file (mount_of told mounted) file at (asked (Some file) found))
+      let here : option_flatten (slice_get (map (mount_of told) mounts) file.mount) ≡ mount_of told mounted =
+      ap (λ n. option_flatten (slice_get (map (mount_of told) mounts) n)) at ∙ mount_read told mounts number mounted inside is in
+      subst (HasFile name file) (sym here) (has_file (mount_of told mounted) file at (asked (Some file) found))
 
 pub none_at_all : (name : List ℕ) (mounts : List (Option Mount)) (number : ℕ) → length mounts ≤ number → NoneBefore name mounts number → IsFirst 0 name mounts None
 none_at_all name mounts number all before = before None (subst (λ l. IsFirst number name l None) (sym (drop_all number mounts all)) refl)

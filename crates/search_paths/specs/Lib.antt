@@ -2,4 +2,5 @@ pub mod Answers
 pub mod Counts
 pub mod Kept
 pub mod Mounts
+pub mod Own
 pub mod Path

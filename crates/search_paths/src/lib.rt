@@ -15,3 +15,8 @@ mod path;
 
 pub use answers::{FileRef, FolderFault, MountError, MountRow};
 pub use path::Paths;
+
+#[cfg(test)]
+mod find_tests;
+#[cfg(test)]
+mod mount_tests;

@@ -1,0 +1,50 @@
+use Rattle.std.proofs.Common.{◌+◌, ◌-◌, refl, ◌∙◌, arith}
+use Rattle.std.proofs.lemmas.List.Elements.{All-push}
+use Rattle.search_paths.specs.Own.{IsOwn}
+use Rattle.search_paths.proofs.OwnMounts.{first_told, first_listed, first_own, more_told, missing_told, full_told, bad_told, more_listed, all_listed}
+use Rattle.search_paths.proofs.mounting.read_mounts.Goals as goal
+
+pub loop-pack-init : goal.loop-pack-init
+loop-pack-init g c =
+    let told = g.F.Folder.files c.args.folder.now in
+    let alone = rw c.new-mounts.ensures.items at c.in-Ok.ensures.items in
+    record {
+      made = first_told c.args.number told c.push.new.self.items alone;
+      listed = first_listed c.args.number c.push.new.self.items alone;
+      own = first_own c.args.number told c.push.new.self.items alone;
+      same = refl;
+      faults = omega arith;
+      calls = omega arith;
+    }
+
+pub returns-in-Ok-None-clause-mounted : goal.returns-in-Ok-None-clause-mounted
+returns-in-Ok-None-clause-mounted g c =
+    let found = rw (c.in-Ok-None.field-0-is, c.loop-pack.invariant.same) at c.in-Ok-None.ensures.found in
+    missing_told c.args.number c.loop-pack.pack (32 - c.loop-pack.pack) (g.F.Folder.files c.args.folder.now) c.loop-pack.mounts.items found c.loop-pack.invariant.made
+
+pub returns-in-Ok-None-clause-rows : goal.returns-in-Ok-None-clause-rows
+returns-in-Ok-None-clause-rows g c = all_listed c.args.number c.loop-pack.pack c.loop-pack.mounts.items (omega arith) c.loop-pack.invariant.listed
+
+pub returns-in-Err-clause-bad : goal.returns-in-Err-clause-bad
+returns-in-Err-clause-bad g c =
+    let found = rw c.loop-pack.invariant.same at c.in-Err.ensures.found in
+    bad_told c.args.number c.loop-pack.pack (32 - c.loop-pack.pack) (31 - c.loop-pack.pack) (g.F.Folder.files c.args.folder.now) c.loop-pack.mounts.items c.in-Err.error (omega arith) found c.loop-pack.invariant.made
+
+pub loop-pack-preserved : goal.loop-pack-preserved
+loop-pack-preserved g c =
+    let told = g.F.Folder.files c.args.folder.now in
+    let found = rw (c.in-Ok-Some.field-0-is, c.loop-pack.invariant.same) at c.in-Ok-Some.ensures.found in
+    record {
+      made = rw c.in-Ok-push.ensures.items (more_told c.args.number c.loop-pack.pack (32 - c.loop-pack.pack) (32 - (c.loop-pack.pack + 1)) told c.loop-pack.mounts.items c.in-Ok-Some.directory (omega arith) found c.loop-pack.invariant.made);
+      listed = rw c.in-Ok-push.ensures.items (more_listed c.args.number c.loop-pack.pack c.loop-pack.mounts.items c.in-Ok-Some.directory c.loop-pack.invariant.listed);
+      own = rw c.in-Ok-push.ensures.items (All-push (IsOwn c.args.number told) c.loop-pack.mounts.items _ c.loop-pack.invariant.own (refl, found));
+      same = c.in-Ok-Some.ensures.same ∙ c.loop-pack.invariant.same;
+      faults = omega arith;
+      calls = omega arith;
+    }
+
+pub returns-clause-mounted : goal.returns-clause-mounted
+returns-clause-mounted g c = full_told c.args.number c.loop-pack.pack (32 - c.loop-pack.pack) (g.F.Folder.files c.args.folder.now) c.loop-pack.mounts.items (omega arith) c.loop-pack.invariant.made
+
+pub returns-clause-rows : goal.returns-clause-rows
+returns-clause-rows g c = all_listed c.args.number c.loop-pack.pack c.loop-pack.mounts.items (omega arith) c.loop-pack.invariant.listed
