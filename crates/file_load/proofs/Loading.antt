@@ -16,7 +16,7 @@ use Rattle.file_load.specs.declared.errors.LoadError.{LoadError}
 use Rattle.file_load.specs.declared.errors.LoadError.TheVariants as error
 use Rattle.file_load.specs.declared.errors.Stage.{Stage}
 use Rattle.file_load.specs.declared.errors.Stage.TheVariants as stage
-use Rattle.file_load.specs.Loads.{Load, NoRoom, At, Loading, padded, loading, IsUnread, Tells}
+use Rattle.file_load.specs.Loads.{Load, NoRoom, At, Loading, padded, loading, IsUnread, Tells, IsMade, Leaves}
 use Rattle.file_load.specs.Files.{Finds, IsSought, IsUnreadable}
 use Rattle.file_load.specs.Refusals.{refused}
 
@@ -50,9 +50,43 @@ padded_is bytes old filled size same fresh fill =
 length-padded : (bytes : List ℕ) (size : ℕ) → size ≡ length bytes → length (padded bytes) ≡ length (zeros size)
 length-padded bytes size same = grind (arith, common_steps, length-replicate)
 
-module _ (asked : ℕ → Answered (Result ℕ Shortage)) (written : Memory → ℕ → List ℕ → Memory) (m : Memory) (given : Result (List ℕ) Load) where
+-- What a load does to the memory, whatever the folders tell.
+module _ (block : ℕ → Answered (Result ℕ Shortage)) (written : Memory → ℕ → List ℕ → Memory) where
+  -- nothing is found to load
+  pub left_early : {T : Type 0} (IsIt : T → Type 0) (m left : Memory) (e : LoadError) → IsSought e → Leaves IsIt block written m left (Err e) m
+  left_early IsIt m left error.NotFound is = refl
+  left_early IsIt m left (error.BeyondPack end whole) is = refl
+  left_early IsIt m left (error.NoRoom asked room) is = absurd is
+  left_early IsIt m left (error.FolderFault folder stage.Find) is = refl
+  left_early IsIt m left (error.FolderFault folder stage.Read) is = absurd (cc)
+  left_early IsIt m left error.OutOfMemory is = absurd is
+
+  -- no block is given
+  pub left_refused : {T : Type 0} (IsIt : T → Type 0) (m left new : Memory) (size : ℕ) (e : RoomError) (frugal : Bool) → Gives (block size) frugal left (room_answer (Err e)) new → Leaves IsIt block written m left (Err (refused e)) new
+  left_refused IsIt m left new size (room_error.NoRoom need room) frugal gives = (size, gives)
+  left_refused IsIt m left new size room_error.OutOfMemory frugal gives = gives.after
+
+  -- a block is given, and written to
+  pub made : (size place : ℕ) (mid new : Memory) (old filled : List ℕ) → Answers (block size) (Ok place) mid → old ≡ zeros size → length filled ≡ length old → new ≡ written mid place filled → IsMade block written size place new
+  made size place mid new old filled gives blank sized wrote = record {
+    bytes = filled;
+    given = gives.answer;
+    length = sized ∙ ap length blank ∙ length-replicate (round_up (size + 1) 16) 0;
+    after = wrote ∙ ap (λ (n : Memory). written n place filled) gives.after;
+  }
+
+  pub left_unread : {T : Type 0} (IsIt : T → Type 0) (m left new : Memory) (size place : ℕ) (e : LoadError) → IsUnreadable e → IsMade block written size place new → Leaves IsIt block written m left (Err e) new
+  left_unread IsIt m left new size place error.NotFound is stands = absurd is
+  left_unread IsIt m left new size place (error.BeyondPack end whole) is stands = absurd is
+  left_unread IsIt m left new size place (error.NoRoom asked room) is stands = absurd is
+  left_unread IsIt m left new size place (error.FolderFault folder stage.Find) is stands = absurd (cc)
+  left_unread IsIt m left new size place (error.FolderFault folder stage.Read) is stands = (size, place, stands)
+  left_unread IsIt m left new size place error.OutOfMemory is stands = absurd is
+
+-- What it gives, by what was found.
+module _ (block : ℕ → Answered (Result ℕ Shortage)) (written : Memory → ℕ → List ℕ → Memory) (m : Memory) (given : Result (List ℕ) Load) where
   abbrev what : Loading
-  what = loading asked written m given
+  what = loading block written m given
 
   -- nothing is found to load
   pub early : {T : Type 0} (IsIt : T → Type 0) (e : LoadError) → IsSought e → Finds given (Err e) → Tells IsIt written what (Err e) m
@@ -65,19 +99,19 @@ module _ (asked : ℕ → Answered (Result ℕ Shortage)) (written : Memory → 
 
   module _ (file : FileRef) (found : Finds given (Ok file)) where
     -- no block is given
-    pub refusal : {T : Type 0} (IsIt : T → Type 0) (e : RoomError) (frugal : Bool) (left new : Memory) → Gives (asked (file.length + 1)) frugal left (room_answer (Err e)) new → Tells IsIt written what (Err (refused e)) new
+    pub refusal : {T : Type 0} (IsIt : T → Type 0) (e : RoomError) (frugal : Bool) (left new : Memory) → Gives (block file.length) frugal left (room_answer (Err e)) new → Tells IsIt written what (Err (refused e)) new
     refusal IsIt (room_error.NoRoom need room) frugal left new gives =
-        let answer : (asked (length found.0 + 1)).answer ≡ Err (record { asked = need; room = room }) = subst (λ n. (asked (n + 1)).answer ≡ Err (record { asked = need; room = room })) found.2 gives.answer in
-        let after : new ≡ (asked (length found.0 + 1)).after = subst (λ n. new ≡ (asked (n + 1)).after) found.2 gives.after in
+        let answer : (block (length found.0)).answer ≡ Err (record { asked = need; room = room }) = subst (λ n. (block n).answer ≡ Err (record { asked = need; room = room })) found.2 gives.answer in
+        let after : new ≡ (block (length found.0)).after = subst (λ n. new ≡ (block n).after) found.2 gives.after in
         rw (found.1, answer) (record { load = refl; after = after })
     refusal IsIt room_error.OutOfMemory frugal left new gives = tt
 
     -- a block is given
-    module _ (place : ℕ) (mid : Memory) (gives : Answers (asked (file.length + 1)) (Ok place) mid) where
+    module _ (place : ℕ) (mid : Memory) (gives : Answers (block file.length) (Ok place) mid) where
       pub what_is : what ≡ record { load = At place found.0; after = written mid place (padded found.0) }
       what_is =
-          let answer : (asked (length found.0 + 1)).answer ≡ Ok place = subst (λ n. (asked (n + 1)).answer ≡ Ok place) found.2 gives.answer in
-          let after : mid ≡ (asked (length found.0 + 1)).after = subst (λ n. mid ≡ (asked (n + 1)).after) found.2 gives.after in
+          let answer : (block (length found.0)).answer ≡ Ok place = subst (λ n. (block n).answer ≡ Ok place) found.2 gives.answer in
+          let after : mid ≡ (block (length found.0)).after = subst (λ n. mid ≡ (block n).after) found.2 gives.after in
           rw (found.1, answer, ← after) refl
 
       -- and the file isn't read

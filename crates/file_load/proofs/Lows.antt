@@ -16,10 +16,10 @@ use Rattle.search_paths.specs.declared.answers.FileRef.{FileRef}
 use Rattle.search_paths.specs.Answers.{first_of}
 use Rattle.search_paths.specs.Mounts.{Mount, find_in}
 use Rattle.file_load.specs.declared.errors.LoadError.{LoadError}
-use Rattle.file_load.specs.Loads.{Load, Loading, loading, load_low, padded, sought, Loads, IsLoaded}
+use Rattle.file_load.specs.Loads.{Loading, low_block, load_low, padded, sought, Loads, IsLoaded, IsMade, LeavesLow}
 use Rattle.file_load.specs.Files.{Finds, IsSought, IsUnreadable}
 use Rattle.file_load.specs.Refusals.{refused}
-use Rattle.file_load.proofs.Loading.{zeros, zone_after, early, refusal, what_is, unread, whole}
+use Rattle.file_load.proofs.Loading.{zeros, zone_after, left_early, left_refused, made, left_unread, early, refusal, what_is, unread, whole}
 use Rattle.file_load.proofs.Overwriting.{with_low_bytes-twice}
 
 -- a new block has zeros alone
@@ -38,35 +38,44 @@ zone_written m mid new size place name bytes frugal reply gives wrote =
     ap (λ (n : Memory). n.zone) wrote ∙ zone-with_low_bytes mid place bytes ∙ zone_given m mid size name frugal reply gives
 
 module _ (m : Memory) (name : List ℕ) where
-  abbrev asked : ℕ → Rattle.mem_model.specs.Answer.Answered (Result ℕ Shortage)
-  asked size = low_alloc m size (base_of name)
+  -- nothing is found to load
+  pub leaves_early : (e : LoadError) → IsSought e → LeavesLow m name (Err e) m
+  leaves_early e is = left_early (low_block m name) with_low_bytes (λ (loaded : Place × ℕ). IsMade (low_block m name) with_low_bytes loaded.1 loaded.0.0 m) m m e is
 
   abbrev loaded_in : List Mount → Loading
   loaded_in all = load_low all m name
 
-  -- nothing is found to load
   pub early_low : (told : Option (List Mount)) (e : LoadError) → IsSought e → IfSome told (λ all. Finds (sought (find_in name all)) (Err e)) → IfSome told (λ all. Loads (loaded_in all) (Err e) m)
   unfolding load_low
   early_low None e is found = tt
-  early_low (Some all) e is found = early asked with_low_bytes m (sought (find_in name all)) (λ loaded. IsLoaded (loaded_in all) loaded m) e is found
+  early_low (Some all) e is found = early (low_block m name) with_low_bytes m (sought (find_in name all)) (λ loaded. IsLoaded (loaded_in all) loaded m) e is found
 
   module _ (file : FileRef) where
     -- no block is given
+    pub leaves_refused : (e : RoomError) (frugal : Bool) (new : Memory) → Gives (low_alloc m (file.length + 1) (base_of name)) frugal m (room_answer (Err e)) new → LeavesLow m name (Err (refused e)) new
+    leaves_refused e frugal new gives = left_refused (low_block m name) with_low_bytes (λ (loaded : Place × ℕ). IsMade (low_block m name) with_low_bytes loaded.1 loaded.0.0 new) m m new file.length e frugal gives
+
     pub refused_low : (told : Option (List Mount)) (e : RoomError) (frugal : Bool) (new : Memory) → IfSome told (λ all. Finds (sought (find_in name all)) (Ok file))
         → Gives (low_alloc m (file.length + 1) (base_of name)) frugal m (room_answer (Err e)) new → IfSome told (λ all. Loads (loaded_in all) (Err (refused e)) new)
     unfolding load_low
     refused_low None e frugal new found gives = tt
-    refused_low (Some all) e frugal new found gives = refusal asked with_low_bytes m (sought (find_in name all)) file found (λ loaded. IsLoaded (loaded_in all) loaded new) e frugal m new gives
+    refused_low (Some all) e frugal new found gives = refusal (low_block m name) with_low_bytes m (sought (find_in name all)) file found (λ loaded. IsLoaded (loaded_in all) loaded new) e frugal m new gives
 
     -- a block is given, and written to
     module _ (place : Place) (mid new : Memory) (old filled : List ℕ) (gives : Answers (low_alloc m (file.length + 1) (base_of name)) (Ok place.0) mid)
       (shows : low_bytes mid place.0 ≡ Some old) (blank : old ≡ zeros file.length) (sized : length filled ≡ length old) (wrote : new ≡ with_low_bytes mid place.0 filled) where
+      pub leaves_made : LeavesLow m name (Ok (place, file.length)) new
+      leaves_made = made (low_block m name) with_low_bytes file.length place.0 mid new old filled gives blank sized wrote
+
       -- the file isn't read
+      pub leaves_unread : (e : LoadError) → IsUnreadable e → LeavesLow m name (Err e) new
+      leaves_unread e is = left_unread (low_block m name) with_low_bytes (λ (loaded : Place × ℕ). IsMade (low_block m name) with_low_bytes loaded.1 loaded.0.0 new) m m new file.length place.0 e is leaves_made
+
       pub unread_low : (told : Option (List Mount)) (e : LoadError) → IsUnreadable e → IfSome told (λ all. Finds (sought (find_in name all)) (Ok file)) → IfSome told (λ all. Loads (loaded_in all) (Err e) new)
       unfolding load_low
       unread_low None e is found = tt
       unread_low (Some all) e is found =
-          unread asked with_low_bytes m (sought (find_in name all)) file found place.0 mid gives (λ loaded. IsLoaded (loaded_in all) loaded new) e is old filled new blank sized wrote
+          unread (low_block m name) with_low_bytes m (sought (find_in name all)) file found place.0 mid gives (λ loaded. IsLoaded (loaded_in all) loaded new) e is old filled new blank sized wrote
           (with_low_bytes-twice mid place.0 old (padded found.0) filled shows sized)
 
       -- the file's bytes are in it
@@ -81,8 +90,8 @@ module _ (m : Memory) (name : List ℕ) where
         where
           here : Fills all → IsLoaded (loaded_in all) (place, file.length) new
           here fill =
-              let is = what_is asked with_low_bytes m (sought (find_in name all)) file found place.0 mid gives in
-              let all_of : filled ≡ padded found.0 = whole asked with_low_bytes m (sought (find_in name all)) file found place.0 mid gives old filled blank (fill first) in
+              let is = what_is (low_block m name) with_low_bytes m (sought (find_in name all)) file found place.0 mid gives in
+              let all_of : filled ≡ padded found.0 = whole (low_block m name) with_low_bytes m (sought (find_in name all)) file found place.0 mid gives old filled blank (fill first) in
               record {
                 bytes = found.0;
                 load = ap (λ (l : Loading). l.load) is;

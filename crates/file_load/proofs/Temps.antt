@@ -13,10 +13,10 @@ use Rattle.search_paths.specs.declared.answers.FileRef.{FileRef}
 use Rattle.search_paths.specs.Answers.{first_of}
 use Rattle.search_paths.specs.Mounts.{Mount, find_in}
 use Rattle.file_load.specs.declared.errors.LoadError.{LoadError}
-use Rattle.file_load.specs.Loads.{Load, Loading, loading, load_temp, padded, sought, LoadsTemp, IsTempLoaded}
+use Rattle.file_load.specs.Loads.{Loading, temp_block, with_temp, load_temp, padded, sought, LoadsTemp, IsTempLoaded, IsMade, LeavesTemp}
 use Rattle.file_load.specs.Files.{Finds, IsSought, IsUnreadable}
 use Rattle.file_load.specs.Refusals.{refused}
-use Rattle.file_load.proofs.Loading.{zeros, zone_after, early, refusal, what_is, unread, whole}
+use Rattle.file_load.proofs.Loading.{zeros, zone_after, left_early, left_refused, made, left_unread, early, refusal, what_is, unread, whole}
 use Rattle.file_load.proofs.Overwriting.{with_temp_bytes-twice}
 
 -- a new block has zeros alone
@@ -33,37 +33,49 @@ zone_given m mid size frugal reply gives = zone_after (temp_alloc m size) frugal
 pub zone_written : (m mid new : Memory) (size : ℕ) (bytes : List ℕ) (frugal : Bool) (reply : Option (Result ℕ Shortage)) → Gives (temp_alloc m size) frugal (without_temp m) reply mid → new ≡ with_temp_bytes mid bytes → new.zone ≡ m.zone
 zone_written m mid new size bytes frugal reply gives wrote = ap (λ (n : Memory). n.zone) wrote ∙ zone-with_temp_bytes mid bytes ∙ zone_given m mid size frugal reply gives
 
-abbrev written : Memory → ℕ → List ℕ → Memory
-written m place bytes = with_temp_bytes m bytes
-
 module _ (m : Memory) (name : List ℕ) where
   abbrev loaded_in : List Mount → Loading
   loaded_in all = load_temp all m name
 
   -- nothing is found to load
+  pub leaves_early : (e : LoadError) → IsSought e → LeavesTemp m (Err e) m
+  leaves_early e is = left_early (temp_block m) with_temp (λ (loaded : ℕ). (place : ℕ) × IsMade (temp_block m) with_temp loaded place m) m (without_temp m) e is
+
   pub early_temp : (told : Option (List Mount)) (e : LoadError) → IsSought e → IfSome told (λ all. Finds (sought (find_in name all)) (Err e)) → IfSome told (λ all. LoadsTemp (loaded_in all) (Err e) m)
   unfolding load_temp
   early_temp None e is found = tt
-  early_temp (Some all) e is found = early (temp_alloc m) written m (sought (find_in name all)) (λ loaded. IsTempLoaded (loaded_in all) loaded m) e is found
+  early_temp (Some all) e is found = early (temp_block m) with_temp m (sought (find_in name all)) (λ loaded. IsTempLoaded (loaded_in all) loaded m) e is found
 
   module _ (file : FileRef) where
     -- no block is given
+    pub leaves_refused : (e : RoomError) (frugal : Bool) (new : Memory) → Gives (temp_alloc m (file.length + 1)) frugal (without_temp m) (room_answer (Err e)) new → LeavesTemp m (Err (refused e)) new
+    leaves_refused e frugal new gives = left_refused (temp_block m) with_temp (λ (loaded : ℕ). (place : ℕ) × IsMade (temp_block m) with_temp loaded place new) m (without_temp m) new file.length e frugal gives
+
     pub refused_temp : (told : Option (List Mount)) (e : RoomError) (frugal : Bool) (new : Memory) → IfSome told (λ all. Finds (sought (find_in name all)) (Ok file))
         → Gives (temp_alloc m (file.length + 1)) frugal (without_temp m) (room_answer (Err e)) new → IfSome told (λ all. LoadsTemp (loaded_in all) (Err (refused e)) new)
     unfolding load_temp
     refused_temp None e frugal new found gives = tt
     refused_temp (Some all) e frugal new found gives =
-        refusal (temp_alloc m) written m (sought (find_in name all)) file found (λ loaded. IsTempLoaded (loaded_in all) loaded new) e frugal (without_temp m) new gives
+        refusal (temp_block m) with_temp m (sought (find_in name all)) file found (λ loaded. IsTempLoaded (loaded_in all) loaded new) e frugal (without_temp m) new gives
 
     -- a block is given, and written to
     module _ (place : ℕ) (mid new : Memory) (old filled : List ℕ) (gives : Answers (temp_alloc m (file.length + 1)) (Ok place) mid)
       (shows : temp_bytes mid ≡ Some old) (blank : old ≡ zeros file.length) (sized : length filled ≡ length old) (wrote : new ≡ with_temp_bytes mid filled) where
+      stands : IsMade (temp_block m) with_temp file.length place new
+      stands = made (temp_block m) with_temp file.length place mid new old filled gives blank sized wrote
+
+      pub leaves_made : LeavesTemp m (Ok file.length) new
+      leaves_made = (place, stands)
+
       -- the file isn't read
+      pub leaves_unread : (e : LoadError) → IsUnreadable e → LeavesTemp m (Err e) new
+      leaves_unread e is = left_unread (temp_block m) with_temp (λ (loaded : ℕ). (place : ℕ) × IsMade (temp_block m) with_temp loaded place new) m (without_temp m) new file.length place e is stands
+
       pub unread_temp : (told : Option (List Mount)) (e : LoadError) → IsUnreadable e → IfSome told (λ all. Finds (sought (find_in name all)) (Ok file)) → IfSome told (λ all. LoadsTemp (loaded_in all) (Err e) new)
       unfolding load_temp
       unread_temp None e is found = tt
       unread_temp (Some all) e is found =
-          unread (temp_alloc m) written m (sought (find_in name all)) file found place mid gives (λ loaded. IsTempLoaded (loaded_in all) loaded new) e is old filled new blank sized wrote
+          unread (temp_block m) with_temp m (sought (find_in name all)) file found place mid gives (λ loaded. IsTempLoaded (loaded_in all) loaded new) e is old filled new blank sized wrote
           (with_temp_bytes-twice mid old (padded found.0) filled shows sized)
 
       -- the file's bytes are in it
@@ -78,8 +90,8 @@ module _ (m : Memory) (name : List ℕ) where
         where
           here : Fills all → IsTempLoaded (loaded_in all) file.length new
           here fill =
-              let is = what_is (temp_alloc m) written m (sought (find_in name all)) file found place mid gives in
-              let all_of : filled ≡ padded found.0 = whole (temp_alloc m) written m (sought (find_in name all)) file found place mid gives old filled blank (fill first) in
+              let is = what_is (temp_block m) with_temp m (sought (find_in name all)) file found place mid gives in
+              let all_of : filled ≡ padded found.0 = whole (temp_block m) with_temp m (sought (find_in name all)) file found place mid gives old filled blank (fill first) in
               record {
                 place = place;
                 bytes = found.0;

@@ -2,11 +2,11 @@
 use Rattle.std.specs.Prelude.{◌≡◌, ℕ, ◌+◌, ◌-◌, ◌<◌, List, ◌++◌, length, replicate, Option, Some, None, Result, Ok, Err}
 use Rattle.std.specs.Option.{ok_or}
 use Rattle.base_fields.specs.Names.{base_of}
-use Rattle.mem_model.specs.Answer.{Answered}
+use Rattle.mem_model.specs.Answer.{Answered, Answers}
 use Rattle.mem_model.specs.Event.{Shortage}
 use Rattle.mem_model.specs.Memory.{Memory}
 use Rattle.mem_model.specs.Places.{round_up}
-use Rattle.mem_model.specs.Hunk.{low_bytes, with_low_bytes, temp_bytes, with_temp_bytes}
+use Rattle.mem_model.specs.Hunk.{low_bytes, with_low_bytes, temp_bytes, with_temp_bytes, without_temp}
 use Rattle.mem_model.specs.Operations.{low_alloc, temp_alloc}
 use Rattle.mem_model.specs.declared.answers.Place.{Place}
 use Rattle.search_paths.specs.Counts.{RoseAt}
@@ -36,23 +36,35 @@ sought (Some found) = ok_or found.1.bytes (Beyond (found.1.offset + found.1.size
 abbrev pub padded : List ℕ → List ℕ
 padded bytes = bytes ++ replicate (round_up (length bytes + 1) 16 - length bytes) 0
 
+-- a low block for a file of so many bytes: a byte more, named by the base of the file's name
+abbrev pub low_block : Memory → List ℕ → ℕ → Answered (Result ℕ Shortage)
+low_block m name size = low_alloc m (size + 1) (base_of name)
+
+-- a temporary block for one
+abbrev pub temp_block : Memory → ℕ → Answered (Result ℕ Shortage)
+temp_block m size = temp_alloc m (size + 1)
+
+-- how bytes are written into it
+abbrev pub with_temp : Memory → ℕ → List ℕ → Memory
+with_temp m place bytes = with_temp_bytes m bytes
+
 -- the bytes are written into the block that was given
 abbrev pub placed : (Memory → ℕ → List ℕ → Memory) → List ℕ → Memory → Result ℕ Shortage → Loading
 placed written bytes m (Ok place) = record { load = At place bytes; after = written m place (padded bytes) }
 placed written bytes m (Err shortage) = record { load = NoRoom shortage; after = m }
 
--- a block for a byte more than there are is asked for
+-- a block for the bytes is asked for
 abbrev pub loading : (ℕ → Answered (Result ℕ Shortage)) → (Memory → ℕ → List ℕ → Memory) → Memory → Result (List ℕ) Load → Loading
-loading asked written m (Ok bytes) = placed written bytes (asked (length bytes + 1)).after (asked (length bytes + 1)).answer
-loading asked written m (Err refusal) = record { load = refusal; after = m }
+loading block written m (Ok bytes) = placed written bytes (block (length bytes)).after (block (length bytes)).answer
+loading block written m (Err refusal) = record { load = refusal; after = m }
 
--- the first file of this name, in a new low block that is named by the name's base
+-- the first file of this name in a new low block
 unfoldable pub load_low : List Mount → Memory → List ℕ → Loading
-load_low mounts m name = loading (λ size. low_alloc m size (base_of name)) with_low_bytes m (sought (find_in name mounts))
+load_low mounts m name = loading (low_block m name) with_low_bytes m (sought (find_in name mounts))
 
 -- the same in a new temporary block
 unfoldable pub load_temp : List Mount → Memory → List ℕ → Loading
-load_temp mounts m name = loading (temp_alloc m) (λ n place bytes. with_temp_bytes n bytes) m (sought (find_in name mounts))
+load_temp mounts m name = loading (temp_block m) with_temp m (sought (find_in name mounts))
 
 -- The file is in the low block of the place that was answered, with its length.
 pub record IsLoaded (given : Loading) (loaded : Place × ℕ) (new : Memory) : Type 0 where
@@ -101,7 +113,32 @@ Loads given result new = Tells (λ loaded. IsLoaded given loaded new) with_low_b
 
 -- into the temporary block
 abbrev pub LoadsTemp : Loading → Result ℕ LoadError → Memory → Type 0
-LoadsTemp given result new = Tells (λ loaded. IsTempLoaded given loaded new) (λ m place bytes. with_temp_bytes m bytes) given result new
+LoadsTemp given result new = Tells (λ loaded. IsTempLoaded given loaded new) with_temp given result new
+
+-- A block for a file of this size stands at this place, with bytes of its own.
+pub record IsMade (block : ℕ → Answered (Result ℕ Shortage)) (written : Memory → ℕ → List ℕ → Memory) (size place : ℕ) (new : Memory) : Type 0 where
+  pub bytes : List ℕ
+  pub given : (block size).answer ≡ Ok place
+  pub length : length bytes ≡ round_up (size + 1) 16
+  pub after : new ≡ written (block size).after place bytes
+
+-- What a load did to the memory, whatever the folders tell. A want of memory left `left`.
+abbrev pub Leaves : {T : Type 0} → (T → Type 0) → (ℕ → Answered (Result ℕ Shortage)) → (Memory → ℕ → List ℕ → Memory) → Memory → Memory → Result T LoadError → Memory → Type 0
+Leaves IsIt block written before left (Ok loaded) new = IsIt loaded
+Leaves IsIt block written before left (Err error.NotFound) new = new ≡ before
+Leaves IsIt block written before left (Err (error.BeyondPack end whole)) new = new ≡ before
+Leaves IsIt block written before left (Err (error.NoRoom asked room)) new = (size : ℕ) × Answers (block size) (Err (record { asked = asked; room = room })) new
+Leaves IsIt block written before left (Err (error.FolderFault folder stage.Find)) new = new ≡ before
+Leaves IsIt block written before left (Err (error.FolderFault folder stage.Read)) new = (size place : ℕ) × IsMade block written size place new
+Leaves IsIt block written before left (Err error.OutOfMemory) new = new ≡ left
+
+-- of a low block
+abbrev pub LeavesLow : Memory → List ℕ → Result (Place × ℕ) LoadError → Memory → Type 0
+LeavesLow m name result new = Leaves (λ loaded. IsMade (low_block m name) with_low_bytes loaded.1 loaded.0.0 new) (low_block m name) with_low_bytes m m result new
+
+-- of the temporary block, which a want of memory has freed
+abbrev pub LeavesTemp : Memory → Result ℕ LoadError → Memory → Type 0
+LeavesTemp m result new = Leaves (λ loaded. (place : ℕ) × IsMade (temp_block m) with_temp loaded place new) (temp_block m) with_temp m (without_temp m) result new
 
 -- what came before a block was asked for left the memory as it was
 abbrev pub IsEarly : Memory → Memory → LoadError → Type 0

@@ -4,7 +4,7 @@ ghost use Rattle.mem_model.specs.Laid.{Laid};
 ghost use Rattle.mem_model.specs.Hunk.{low_bytes};
 ghost use Rattle.search_paths.specs.Counts.{NoneFalls};
 ghost use Rattle.search_paths.specs.Path.{mounts_of, faults_of, calls_of, SamePath};
-ghost use Rattle.file_load.specs.Loads.{load_low, Loads, IsEarly, IsLoadFault};
+ghost use Rattle.file_load.specs.Loads.{load_low, Loads, LeavesLow, IsEarly, IsLoadFault};
 
 use crate::errors::LoadError;
 use crate::files::{find_whole, read_whole};
@@ -26,7 +26,8 @@ pub fn load_low<M: Store, F: Folder>(
     // Where the folders tell their files: what is loaded, and the first refusal.
     ensures told { IfSome (mounts_of paths.old) (λ mounts. Loads (load_low mounts (M.state store.old) name.now) result (M.state store.new)) }
 
-    // Whatever they tell: the block, the store and the errors.
+    // Whatever they tell: the store, and the block.
+    ensures leaves { LeavesLow (M.state store.old) name.now result (M.state store.new) }
     ensures there { IfOk result (λ loaded. IsSomeAnd (low_bytes (M.state store.new) loaded.0.0) (λ bytes. loaded.1 ≤ length bytes)) }
     ensures zero { IfOk result (λ loaded. IsSomeAnd (low_bytes (M.state store.new) loaded.0.0) (λ bytes. slice_get bytes loaded.1 ≡ Some 0)) }
     ensures early { IfErr result (IsEarly (M.state store.old) (M.state store.new)) }

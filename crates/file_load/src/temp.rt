@@ -4,7 +4,7 @@ ghost use Rattle.mem_model.specs.Laid.{Laid};
 ghost use Rattle.mem_model.specs.Hunk.{temp_bytes, without_temp};
 ghost use Rattle.search_paths.specs.Counts.{NoneFalls};
 ghost use Rattle.search_paths.specs.Path.{mounts_of, faults_of, calls_of, SamePath};
-ghost use Rattle.file_load.specs.Loads.{load_temp, LoadsTemp, IsEarly, IsLoadFault};
+ghost use Rattle.file_load.specs.Loads.{load_temp, LoadsTemp, LeavesTemp, IsEarly, IsLoadFault};
 
 use crate::errors::LoadError;
 use crate::files::{find_whole, read_whole};
@@ -26,7 +26,8 @@ pub fn load_temp<M: Store, F: Folder>(
     // Where the folders tell their files: what is loaded, and the first refusal.
     ensures told { IfSome (mounts_of paths.old) (λ mounts. LoadsTemp (load_temp mounts (M.state store.old) name.now) result (M.state store.new)) }
 
-    // Whatever they tell: the block, the store and the errors.
+    // Whatever they tell: the store, and the block.
+    ensures leaves { LeavesTemp (M.state store.old) result (M.state store.new) }
     ensures there { IfOk result (λ loaded. IsSomeAnd (temp_bytes (M.state store.new)) (λ bytes. loaded ≤ length bytes)) }
     ensures zero { IfOk result (λ loaded. IsSomeAnd (temp_bytes (M.state store.new)) (λ bytes. slice_get bytes loaded ≡ Some 0)) }
     ensures early { IfErr result (IsEarly (M.state store.old) (M.state store.new)) }

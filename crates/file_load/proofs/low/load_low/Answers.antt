@@ -5,8 +5,33 @@ use Rattle.mem_model.proofs.Laws.{low_bytes-written}
 use Rattle.mem_model.proofs.Laying.{Laid-with_low_bytes}
 use Rattle.search_paths.specs.Path.{mounts_of, all_some}
 use Rattle.file_load.proofs.Loading.{zero_behind, room_in}
-use Rattle.file_load.proofs.Lows.{fresh, are_zeros, zone_given, zone_written, early_low, refused_low, unread_low, loaded_low}
+use Rattle.file_load.proofs.Lows.{fresh, are_zeros, zone_given, zone_written, leaves_early, leaves_refused, leaves_made, leaves_unread, early_low, refused_low, unread_low, loaded_low}
 use Rattle.file_load.proofs.low.load_low.Goals as goal
+
+pub returns-in_err-file-clause-leaves : goal.returns-in_err-file-clause-leaves
+returns-in_err-file-clause-leaves g c =
+    let p = err_from_is_err_and c.from_residual.result c.from_residual.ensures.1 in
+    rw (p.1, p.2) (leaves_early _ _ c.in_err-file.field-0.0 c.in_err-file.ensures.early)
+
+pub returns-in_err-place-clause-leaves : goal.returns-in_err-place-clause-leaves
+returns-in_err-place-clause-leaves g c =
+    let p = err_from_is_err_and c.from_residual-in_err-place.result c.from_residual-in_err-place.ensures.1 in
+    let gives = rw c.base.ensures.value at c.in_err-place.ensures.gives in
+    rw (p.1, p.2) (leaves_refused _ _ c.in_ok-file.file c.in_err-place.field-0.0 g.M.Store.frugal _ gives)
+
+pub returns-in_err-read_whole-clause-leaves : goal.returns-in_err-read_whole-clause-leaves
+returns-in_err-read_whole-clause-leaves g c =
+    let p = err_from_is_err_and c.from_residual-in_err-read_whole.result c.from_residual-in_err-read_whole.ensures.1 in
+    let gives = rw c.base.ensures.value at c.in_ok-place.ensures.gives in
+    let blank = are_zeros _ _ _ _ _ _ c.low_alloc.ensures.was_laid gives c.low_bytes_mut.ensures.shows in
+    rw (p.1, p.2) (leaves_unread _ _ c.in_ok-file.file c.in_ok-place.place _ _ _ _ gives c.low_bytes_mut.ensures.shows blank c.read_whole.auto.into (g.met.M.Store.low_writes _ _ _)
+      c.in_err-read_whole.field-0.0 c.in_err-read_whole.ensures.late)
+
+pub returns-clause-leaves : goal.returns-clause-leaves
+returns-clause-leaves g c =
+    let gives = rw c.base.ensures.value at c.in_ok-place.ensures.gives in
+    let blank = are_zeros _ _ _ _ _ _ c.low_alloc.ensures.was_laid gives c.low_bytes_mut.ensures.shows in
+    leaves_made _ _ c.in_ok-file.file c.in_ok-place.place _ _ _ _ gives c.low_bytes_mut.ensures.shows blank c.read_whole.auto.into (g.met.M.Store.low_writes _ _ _)
 
 pub returns-in_err-file-clause-told : goal.returns-in_err-file-clause-told
 returns-in_err-file-clause-told g c =

@@ -5,8 +5,30 @@ use Rattle.mem_model.proofs.Laws.{temp_bytes-written}
 use Rattle.mem_model.proofs.Newest.{Laid-with_temp_bytes}
 use Rattle.search_paths.specs.Path.{mounts_of, all_some}
 use Rattle.file_load.proofs.Loading.{zero_behind, room_in}
-use Rattle.file_load.proofs.Temps.{fresh, are_zeros, zone_given, zone_written, early_temp, refused_temp, unread_temp, loaded_temp}
+use Rattle.file_load.proofs.Temps.{fresh, are_zeros, zone_given, zone_written, leaves_early, leaves_refused, leaves_made, leaves_unread, early_temp, refused_temp, unread_temp, loaded_temp}
 use Rattle.file_load.proofs.temp.load_temp.Goals as goal
+
+pub returns-in_err-file-clause-leaves : goal.returns-in_err-file-clause-leaves
+returns-in_err-file-clause-leaves g c =
+    let p = err_from_is_err_and c.from_residual.result c.from_residual.ensures.1 in
+    rw (p.1, p.2) (leaves_early _ c.args.name.now c.in_err-file.field-0.0 c.in_err-file.ensures.early)
+
+pub returns-in_err-_place-clause-leaves : goal.returns-in_err-_place-clause-leaves
+returns-in_err-_place-clause-leaves g c =
+    let p = err_from_is_err_and c.from_residual-in_err-_place.result c.from_residual-in_err-_place.ensures.1 in
+    rw (p.1, p.2) (leaves_refused _ c.args.name.now c.in_ok-file.file c.in_err-_place.field-0.0 g.M.Store.frugal _ c.in_err-_place.ensures.gives)
+
+pub returns-in_err-read_whole-clause-leaves : goal.returns-in_err-read_whole-clause-leaves
+returns-in_err-read_whole-clause-leaves g c =
+    let p = err_from_is_err_and c.from_residual-in_err-read_whole.result c.from_residual-in_err-read_whole.ensures.1 in
+    let blank = are_zeros _ _ _ _ _ c.in_ok-_place.ensures.gives c.temp_bytes_mut.ensures.shows in
+    rw (p.1, p.2) (leaves_unread _ c.args.name.now c.in_ok-file.file _ _ _ _ _ c.in_ok-_place.ensures.gives c.temp_bytes_mut.ensures.shows blank c.read_whole.auto.into (g.met.M.Store.temp_writes _ _)
+      c.in_err-read_whole.field-0.0 c.in_err-read_whole.ensures.late)
+
+pub returns-clause-leaves : goal.returns-clause-leaves
+returns-clause-leaves g c =
+    let blank = are_zeros _ _ _ _ _ c.in_ok-_place.ensures.gives c.temp_bytes_mut.ensures.shows in
+    leaves_made _ c.args.name.now c.in_ok-file.file _ _ _ _ _ c.in_ok-_place.ensures.gives c.temp_bytes_mut.ensures.shows blank c.read_whole.auto.into (g.met.M.Store.temp_writes _ _)
 
 pub returns-in_err-file-clause-told : goal.returns-in_err-file-clause-told
 returns-in_err-file-clause-told g c =
