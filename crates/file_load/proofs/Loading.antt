@@ -16,7 +16,8 @@ use Rattle.file_load.specs.declared.errors.LoadError.{LoadError}
 use Rattle.file_load.specs.declared.errors.LoadError.TheVariants as error
 use Rattle.file_load.specs.declared.errors.Stage.{Stage}
 use Rattle.file_load.specs.declared.errors.Stage.TheVariants as stage
-use Rattle.file_load.specs.Loads.{Load, NoRoom, At, Loading, padded, loading, IsUnread, Tells, IsMade, Leaves}
+use Rattle.file_load.specs.Loads.{Load, NoRoom, At, Loading, padded, loading, IsUnread, Tells}
+use Rattle.file_load.specs.Leaves.{IsMade, Leaves}
 use Rattle.file_load.specs.Files.{Finds, IsSought, IsUnreadable}
 use Rattle.file_load.specs.Refusals.{refused}
 

@@ -16,7 +16,8 @@ use Rattle.search_paths.specs.declared.answers.FileRef.{FileRef}
 use Rattle.search_paths.specs.Answers.{first_of}
 use Rattle.search_paths.specs.Mounts.{Mount, find_in}
 use Rattle.file_load.specs.declared.errors.LoadError.{LoadError}
-use Rattle.file_load.specs.Loads.{Loading, low_block, load_low, padded, sought, Loads, IsLoaded, IsMade, LeavesLow}
+use Rattle.file_load.specs.Loads.{Loading, low_block, load_low, padded, sought, Loads, IsLoaded}
+use Rattle.file_load.specs.Leaves.{IsMade, LeavesLow}
 use Rattle.file_load.specs.Files.{Finds, IsSought, IsUnreadable}
 use Rattle.file_load.specs.Refusals.{refused}
 use Rattle.file_load.proofs.Loading.{zeros, zone_after, left_early, left_refused, made, left_unread, early, refusal, what_is, unread, whole}
@@ -63,7 +64,7 @@ module _ (m : Memory) (name : List ℕ) where
 
     -- a block is given, and written to
     module _ (place : Place) (mid new : Memory) (old filled : List ℕ) (gives : Answers (low_alloc m (file.length + 1) (base_of name)) (Ok place.0) mid)
-      (shows : low_bytes mid place.0 ≡ Some old) (blank : old ≡ zeros file.length) (sized : length filled ≡ length old) (wrote : new ≡ with_low_bytes mid place.0 filled) where
+        (shows : low_bytes mid place.0 ≡ Some old) (blank : old ≡ zeros file.length) (sized : length filled ≡ length old) (wrote : new ≡ with_low_bytes mid place.0 filled) where
       pub leaves_made : LeavesLow m name (Ok (place, file.length)) new
       leaves_made = made (low_block m name) with_low_bytes file.length place.0 mid new old filled gives blank sized wrote
 

@@ -13,7 +13,8 @@ use Rattle.search_paths.specs.declared.answers.FileRef.{FileRef}
 use Rattle.search_paths.specs.Answers.{first_of}
 use Rattle.search_paths.specs.Mounts.{Mount, find_in}
 use Rattle.file_load.specs.declared.errors.LoadError.{LoadError}
-use Rattle.file_load.specs.Loads.{Loading, temp_block, with_temp, load_temp, padded, sought, LoadsTemp, IsTempLoaded, IsMade, LeavesTemp}
+use Rattle.file_load.specs.Loads.{Loading, temp_block, with_temp, load_temp, padded, sought, LoadsTemp, IsTempLoaded}
+use Rattle.file_load.specs.Leaves.{IsMade, LeavesTemp}
 use Rattle.file_load.specs.Files.{Finds, IsSought, IsUnreadable}
 use Rattle.file_load.specs.Refusals.{refused}
 use Rattle.file_load.proofs.Loading.{zeros, zone_after, left_early, left_refused, made, left_unread, early, refusal, what_is, unread, whole}
@@ -60,7 +61,7 @@ module _ (m : Memory) (name : List ℕ) where
 
     -- a block is given, and written to
     module _ (place : ℕ) (mid new : Memory) (old filled : List ℕ) (gives : Answers (temp_alloc m (file.length + 1)) (Ok place) mid)
-      (shows : temp_bytes mid ≡ Some old) (blank : old ≡ zeros file.length) (sized : length filled ≡ length old) (wrote : new ≡ with_temp_bytes mid filled) where
+        (shows : temp_bytes mid ≡ Some old) (blank : old ≡ zeros file.length) (sized : length filled ≡ length old) (wrote : new ≡ with_temp_bytes mid filled) where
       stands : IsMade (temp_block m) with_temp file.length place new
       stands = made (temp_block m) with_temp file.length place mid new old filled gives blank sized wrote
 

@@ -2,11 +2,11 @@
 use Rattle.std.specs.Prelude.{◌≡◌, ℕ, ◌+◌, ◌-◌, ◌<◌, List, ◌++◌, length, replicate, Option, Some, None, Result, Ok, Err}
 use Rattle.std.specs.Option.{ok_or}
 use Rattle.base_fields.specs.Names.{base_of}
-use Rattle.mem_model.specs.Answer.{Answered, Answers}
+use Rattle.mem_model.specs.Answer.{Answered}
 use Rattle.mem_model.specs.Event.{Shortage}
 use Rattle.mem_model.specs.Memory.{Memory}
 use Rattle.mem_model.specs.Places.{round_up}
-use Rattle.mem_model.specs.Hunk.{low_bytes, with_low_bytes, temp_bytes, with_temp_bytes, without_temp}
+use Rattle.mem_model.specs.Hunk.{low_bytes, with_low_bytes, temp_bytes, with_temp_bytes}
 use Rattle.mem_model.specs.Operations.{low_alloc, temp_alloc}
 use Rattle.mem_model.specs.declared.answers.Place.{Place}
 use Rattle.search_paths.specs.Counts.{RoseAt}
@@ -96,8 +96,7 @@ pub record IsRefused (given : Loading) (answer : Load) (new : Memory) : Type 0 w
   pub load : given.load ≡ answer
   pub after : new ≡ given.after
 
--- How a call loaded, or was refused, as the definition says. What a fault at the search and a want of memory leave is said
--- apart, since it doesn't rest on what folders tell.
+-- How a call loaded, or was refused, as the definition says. A fault at the search and a want of memory end it before that.
 abbrev pub Tells : {T : Type 0} → (T → Type 0) → (Memory → ℕ → List ℕ → Memory) → Loading → Result T LoadError → Memory → Type 0
 Tells IsIt written given (Ok loaded) new = IsIt loaded
 Tells IsIt written given (Err error.NotFound) new = IsRefused given Missing new
@@ -114,40 +113,6 @@ Loads given result new = Tells (λ loaded. IsLoaded given loaded new) with_low_b
 -- into the temporary block
 abbrev pub LoadsTemp : Loading → Result ℕ LoadError → Memory → Type 0
 LoadsTemp given result new = Tells (λ loaded. IsTempLoaded given loaded new) with_temp given result new
-
--- A block for a file of this size stands at this place, with bytes of its own.
-pub record IsMade (block : ℕ → Answered (Result ℕ Shortage)) (written : Memory → ℕ → List ℕ → Memory) (size place : ℕ) (new : Memory) : Type 0 where
-  pub bytes : List ℕ
-  pub given : (block size).answer ≡ Ok place
-  pub length : length bytes ≡ round_up (size + 1) 16
-  pub after : new ≡ written (block size).after place bytes
-
--- What a load did to the memory, whatever the folders tell. A want of memory left `left`.
-abbrev pub Leaves : {T : Type 0} → (T → Type 0) → (ℕ → Answered (Result ℕ Shortage)) → (Memory → ℕ → List ℕ → Memory) → Memory → Memory → Result T LoadError → Memory → Type 0
-Leaves IsIt block written before left (Ok loaded) new = IsIt loaded
-Leaves IsIt block written before left (Err error.NotFound) new = new ≡ before
-Leaves IsIt block written before left (Err (error.BeyondPack end whole)) new = new ≡ before
-Leaves IsIt block written before left (Err (error.NoRoom asked room)) new = (size : ℕ) × Answers (block size) (Err (record { asked = asked; room = room })) new
-Leaves IsIt block written before left (Err (error.FolderFault folder stage.Find)) new = new ≡ before
-Leaves IsIt block written before left (Err (error.FolderFault folder stage.Read)) new = (size place : ℕ) × IsMade block written size place new
-Leaves IsIt block written before left (Err error.OutOfMemory) new = new ≡ left
-
--- of a low block
-abbrev pub LeavesLow : Memory → List ℕ → Result (Place × ℕ) LoadError → Memory → Type 0
-LeavesLow m name result new = Leaves (λ loaded. IsMade (low_block m name) with_low_bytes loaded.1 loaded.0.0 new) (low_block m name) with_low_bytes m m result new
-
--- of the temporary block, which a want of memory has freed
-abbrev pub LeavesTemp : Memory → Result ℕ LoadError → Memory → Type 0
-LeavesTemp m result new = Leaves (λ loaded. (place : ℕ) × IsMade (temp_block m) with_temp loaded place new) (temp_block m) with_temp m (without_temp m) result new
-
--- what came before a block was asked for left the memory as it was
-abbrev pub IsEarly : Memory → Memory → LoadError → Type 0
-IsEarly before after error.NotFound = after ≡ before
-IsEarly before after (error.BeyondPack end whole) = after ≡ before
-IsEarly before after (error.NoRoom asked room) = Unit {0}
-IsEarly before after (error.FolderFault folder stage.Find) = after ≡ before
-IsEarly before after (error.FolderFault folder stage.Read) = Unit {0}
-IsEarly before after error.OutOfMemory = Unit {0}
 
 -- a folder's fault comes only where there is a folder of the number, and its count rose
 abbrev pub IsLoadFault : List ℕ → List ℕ → LoadError → Type 0

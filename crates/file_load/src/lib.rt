@@ -12,3 +12,6 @@ mod temp;
 pub use errors::{LoadError, Stage};
 pub use low::load_low;
 pub use temp::load_temp;
+
+#[cfg(test)]
+mod tests;

@@ -4,7 +4,8 @@ ghost use Rattle.mem_model.specs.Laid.{Laid};
 ghost use Rattle.mem_model.specs.Hunk.{low_bytes};
 ghost use Rattle.search_paths.specs.Counts.{NoneFalls};
 ghost use Rattle.search_paths.specs.Path.{mounts_of, faults_of, calls_of, SamePath};
-ghost use Rattle.file_load.specs.Loads.{load_low, Loads, LeavesLow, IsEarly, IsLoadFault};
+ghost use Rattle.file_load.specs.Loads.{load_low, Loads, IsLoadFault};
+ghost use Rattle.file_load.specs.Leaves.{LeavesLow, IsEarly};
 
 use crate::errors::LoadError;
 use crate::files::{find_whole, read_whole};

@@ -4,7 +4,8 @@ ghost use Rattle.mem_model.specs.Laid.{Laid};
 ghost use Rattle.mem_model.specs.Hunk.{temp_bytes, without_temp};
 ghost use Rattle.search_paths.specs.Counts.{NoneFalls};
 ghost use Rattle.search_paths.specs.Path.{mounts_of, faults_of, calls_of, SamePath};
-ghost use Rattle.file_load.specs.Loads.{load_temp, LoadsTemp, LeavesTemp, IsEarly, IsLoadFault};
+ghost use Rattle.file_load.specs.Loads.{load_temp, LoadsTemp, IsLoadFault};
+ghost use Rattle.file_load.specs.Leaves.{LeavesTemp, IsEarly};
 
 use crate::errors::LoadError;
 use crate::files::{find_whole, read_whole};

@@ -25,7 +25,7 @@ returns-in_err-read_whole-clause-leaves g c =
     let gives = rw c.base.ensures.value at c.in_ok-place.ensures.gives in
     let blank = are_zeros _ _ _ _ _ _ c.low_alloc.ensures.was_laid gives c.low_bytes_mut.ensures.shows in
     rw (p.1, p.2) (leaves_unread _ _ c.in_ok-file.file c.in_ok-place.place _ _ _ _ gives c.low_bytes_mut.ensures.shows blank c.read_whole.auto.into (g.met.M.Store.low_writes _ _ _)
-      c.in_err-read_whole.field-0.0 c.in_err-read_whole.ensures.late)
+    c.in_err-read_whole.field-0.0 c.in_err-read_whole.ensures.late)
 
 pub returns-clause-leaves : goal.returns-clause-leaves
 returns-clause-leaves g c =
@@ -60,7 +60,7 @@ returns-in_err-read_whole-clause-told g c =
     let gives = rw c.base.ensures.value at c.in_ok-place.ensures.gives in
     let blank = are_zeros _ _ _ _ _ _ c.low_alloc.ensures.was_laid gives c.low_bytes_mut.ensures.shows in
     rw (p.1, p.2) (unread_low _ _ c.in_ok-file.file c.in_ok-place.place _ _ _ _ gives c.low_bytes_mut.ensures.shows blank c.read_whole.auto.into (g.met.M.Store.low_writes _ _ _)
-      (mounts_of c.args.paths.now) c.in_err-read_whole.field-0.0 c.in_err-read_whole.ensures.late c.in_ok-file.ensures.told)
+    (mounts_of c.args.paths.now) c.in_err-read_whole.field-0.0 c.in_err-read_whole.ensures.late c.in_ok-file.ensures.told)
 
 pub returns-in_err-read_whole-clause-laid : goal.returns-in_err-read_whole-clause-laid
 returns-in_err-read_whole-clause-laid g c = λ before. rw g.met.M.Store.low_writes (Laid-with_low_bytes _ _ _ c.low_alloc.ensures.laid)

@@ -23,7 +23,7 @@ returns-in_err-read_whole-clause-leaves g c =
     let p = err_from_is_err_and c.from_residual-in_err-read_whole.result c.from_residual-in_err-read_whole.ensures.1 in
     let blank = are_zeros _ _ _ _ _ c.in_ok-_place.ensures.gives c.temp_bytes_mut.ensures.shows in
     rw (p.1, p.2) (leaves_unread _ c.args.name.now c.in_ok-file.file _ _ _ _ _ c.in_ok-_place.ensures.gives c.temp_bytes_mut.ensures.shows blank c.read_whole.auto.into (g.met.M.Store.temp_writes _ _)
-      c.in_err-read_whole.field-0.0 c.in_err-read_whole.ensures.late)
+    c.in_err-read_whole.field-0.0 c.in_err-read_whole.ensures.late)
 
 pub returns-clause-leaves : goal.returns-clause-leaves
 returns-clause-leaves g c =
@@ -54,7 +54,7 @@ returns-in_err-read_whole-clause-told g c =
     let p = err_from_is_err_and c.from_residual-in_err-read_whole.result c.from_residual-in_err-read_whole.ensures.1 in
     let blank = are_zeros _ _ _ _ _ c.in_ok-_place.ensures.gives c.temp_bytes_mut.ensures.shows in
     rw (p.1, p.2) (unread_temp _ _ c.in_ok-file.file _ _ _ _ _ c.in_ok-_place.ensures.gives c.temp_bytes_mut.ensures.shows blank c.read_whole.auto.into (g.met.M.Store.temp_writes _ _)
-      (mounts_of c.args.paths.now) c.in_err-read_whole.field-0.0 c.in_err-read_whole.ensures.late c.in_ok-file.ensures.told)
+    (mounts_of c.args.paths.now) c.in_err-read_whole.field-0.0 c.in_err-read_whole.ensures.late c.in_ok-file.ensures.told)
 
 pub returns-in_err-read_whole-clause-laid : goal.returns-in_err-read_whole-clause-laid
 returns-in_err-read_whole-clause-laid g c = λ before. rw g.met.M.Store.temp_writes (Laid-with_temp_bytes _ _ c.temp_alloc.ensures.laid)
