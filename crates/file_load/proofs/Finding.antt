@@ -1,5 +1,5 @@
 -- What finding and reading the file of a load tell, where the folders of the path tell their files.
-use Rattle.std.proofs.Common.{◌≡◌, ℕ, ◌+◌, ◌<◌, ◌≤◌, List, ◌++◌, length, Option, Some, None, IfSome, IfOk, Result, Ok, Err, refl, sym, ap, subst, ◌∙◌, arith}
+use Rattle.std.proofs.Common.{◌≡◌, ℕ, ◌+◌, ◌<◌, ◌≤◌, List, ◌++◌, length, Option, Some, None, IfSome, IfOk, Ok, Err, refl, sym, ap, subst, ◌∙◌, arith}
 use Rattle.std.specs.Prelude.{slice_range, option_map, IsSomeAnd}
 use Rattle.std.specs.Option.{ok_or}
 use Rattle.std.proofs.lemmas.Grind.{common_steps}
@@ -10,7 +10,7 @@ use Rattle.search_paths.specs.Answers.{ref_of, first_of, IsFilePart}
 use Rattle.search_paths.specs.Mounts.{FileAt, Mount, file_in, find_in}
 use Rattle.search_paths.specs.Path.{mounts_of, mount_at}
 use Rattle.search_paths.proofs.FindLaws.{IsCut, mount_at-told, find_in-found, found-cut, bytes-inside, bytes-outside}
-use Rattle.file_load.specs.Loads.{Load, Beyond, sought}
+use Rattle.file_load.specs.Loads.{Beyond, sought}
 use Rattle.file_load.specs.Files.{Finds}
 
 -- the first file of a name stands here

@@ -1,6 +1,6 @@
 -- What a load gives, by what was found and what a block was given for it.
-use Rattle.std.proofs.Common.{◌≡◌, ℕ, ◌+◌, ◌-◌, ◌<◌, ◌≤◌, Bool, List, ◌++◌, length, get_or, drop, replicate, Option, Some, None, IfSome, IfOk, Result, Ok, Err, refl, sym, ap, subst, ◌∙◌, add-zero, arith}
-use Rattle.std.specs.Prelude.{slice_get, IsSomeAnd}
+use Rattle.std.proofs.Common.{◌≡◌, ℕ, ◌+◌, ◌-◌, ◌<◌, ◌≤◌, Bool, List, ◌++◌, length, get_or, drop, replicate, Option, Some, None, IfOk, Result, Ok, Err, refl, sym, ap, subst, ◌∙◌, add-zero, arith}
+use Rattle.std.specs.Prelude.{slice_get}
 use Rattle.std.proofs.lemmas.List.{drop-replicate, length-replicate, get_or-drop, get_or-replicate}
 use Rattle.std.proofs.lemmas.Grind.{common_steps}
 use Rattle.std.proofs.lemmas.Option.{slice_get-get_or}
@@ -14,9 +14,8 @@ use Rattle.mem_model.specs.declared.answers.RoomError.TheVariants as room_error
 use Rattle.search_paths.specs.declared.answers.FileRef.{FileRef}
 use Rattle.file_load.specs.declared.errors.LoadError.{LoadError}
 use Rattle.file_load.specs.declared.errors.LoadError.TheVariants as error
-use Rattle.file_load.specs.declared.errors.Stage.{Stage}
 use Rattle.file_load.specs.declared.errors.Stage.TheVariants as stage
-use Rattle.file_load.specs.Loads.{Load, NoRoom, At, Loading, padded, loading, IsUnread, Tells}
+use Rattle.file_load.specs.Loads.{Load, At, Loading, padded, loading, Tells}
 use Rattle.file_load.specs.Leaves.{IsMade, Leaves}
 use Rattle.file_load.specs.Files.{Finds, IsSought, IsUnreadable}
 use Rattle.file_load.specs.Refusals.{refused}

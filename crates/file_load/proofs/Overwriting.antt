@@ -1,5 +1,5 @@
 -- What is written over all bytes of a block alone stands there: an earlier write into the block leaves nothing.
-use Rattle.std.proofs.Common.{◌≡◌, ℕ, ◌+◌, List, [], ◌∷◌, length, Option, Some, None, refl, sym, ap, ◌∙◌, inl, inr}
+use Rattle.std.proofs.Common.{◌≡◌, ℕ, ◌+◌, List, [], ◌∷◌, length, Some, refl, sym, ap, ◌∙◌, inl, inr}
 use Rattle.std.proofs.lemmas.Bool.Decides.{eqb_tells}
 use Rattle.mem_model.specs.Blocks.{HunkBlock}
 use Rattle.mem_model.specs.Memory.{Memory}

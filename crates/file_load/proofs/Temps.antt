@@ -1,5 +1,5 @@
 -- Loading into the temporary block, where the folders of the path tell their files.
-use Rattle.std.proofs.Common.{◌≡◌, ℕ, ◌+◌, List, ◌++◌, Bool, length, drop, Option, Some, None, IfSome, IfOk, Result, Ok, Err, refl, sym, ap, ◌∙◌}
+use Rattle.std.proofs.Common.{◌≡◌, ℕ, ◌+◌, List, ◌++◌, Bool, length, drop, Option, Some, None, IfSome, IfOk, Result, Ok, Err, sym, ap, ◌∙◌}
 use Rattle.mem_model.specs.Answer.{Answers, Gives}
 use Rattle.mem_model.specs.Event.{Shortage}
 use Rattle.mem_model.specs.Memory.{Memory}
