@@ -1,0 +1,6 @@
+mod Examples
+pub mod Finding
+pub mod Loading
+pub mod Lows
+pub mod Overwriting
+pub mod Temps

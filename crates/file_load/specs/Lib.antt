@@ -1,0 +1,4 @@
+pub mod Files
+pub mod Leaves
+pub mod Loads
+pub mod Refusals

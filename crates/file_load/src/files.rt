@@ -1,0 +1,78 @@
+// Finding the file of a load, and reading it.
+ghost use Rattle.std.specs.Prelude.{◌≡◌, ◌+◌, ◌<◌, ◌≤◌, ◌^◌, ◌++◌, Some, drop, length, IfErr, IfOk, IfSome, OnOk};
+ghost use Rattle.search_paths.specs.Answers.{first_of, HasFile, IsFileRef};
+ghost use Rattle.search_paths.specs.Counts.{NoneFalls};
+ghost use Rattle.search_paths.specs.Mounts.{find_in};
+ghost use Rattle.search_paths.specs.Path.{rows_of, mounts_of, mount_at, faults_of, calls_of, SamePath};
+ghost use Rattle.file_load.specs.Loads.{sought, IsLoadFault};
+ghost use Rattle.file_load.specs.Files.{Finds, IsSought, IsUnreadable};
+
+use crate::errors::{LoadError, Stage};
+use base_fields::GameName;
+use outside_io::Folder;
+use search_paths::{FileRef, Paths};
+
+// The first file of this name, where it lies inside.
+pub(crate) fn find_whole<F: Folder>(
+    paths: &mut Paths<F>,
+    name: &GameName,
+) -> Result<FileRef, LoadError>
+    ensures told { IfSome (mounts_of paths.old) (λ mounts. Finds (sought (find_in name.now mounts)) result) }
+    ensures first { IfOk result (λ file. IfSome (mounts_of paths.old) (λ mounts. first_of name.now mounts ≡ Some file)) }
+    ensures there { IfOk result (λ file. HasFile name.now file (mount_at file.mount paths.old)) }
+    ensures sized { IfOk result (IsFileRef (length (rows_of paths.old))) }
+    ensures inside { IfOk result (λ file. file.offset + file.length ≤ file.whole) }
+    ensures early { IfErr result IsSought }
+    ensures same { SamePath paths.old paths.new }
+    ensures faults { NoneFalls (faults_of paths.old) (faults_of paths.new) }
+    ensures calls { NoneFalls (calls_of paths.old) (calls_of paths.new) }
+    ensures fault { IfErr result (IsLoadFault (faults_of paths.old) (faults_of paths.new)) }
+{
+    match paths.find(name) {
+        Ok(Some(file)) => {
+            let end = file.offset + file.length;
+            if end > file.whole {
+                return Err(LoadError::BeyondPack {
+                    end,
+                    length: file.whole,
+                });
+            }
+            Ok(file)
+        }
+        Ok(None) => Err(LoadError::NotFound),
+        Err(fault) => Err(LoadError::FolderFault {
+            folder: fault.folder,
+            stage: Stage::Find,
+        }),
+    }
+}
+
+// Fills the front with the file's bytes.
+pub(crate) fn read_whole<F: Folder>(
+    paths: &mut Paths<F>,
+    file: &FileRef,
+    name: &GameName,
+    into: &mut [u8],
+) -> Result<(), LoadError>
+    requires mount { file.now.mount < length (rows_of paths.old) }
+    requires there { HasFile name.now file.now (mount_at file.now.mount paths.old) }
+    requires short { file.now.length < 2 ^ 62 }
+    requires inside { file.now.offset + file.now.length ≤ file.now.whole }
+    requires fits { file.now.length ≤ length into.old }
+    ensures filled { OnOk result (IfSome (mounts_of paths.old) (λ mounts. first_of name.now mounts ≡ Some file.now
+        → IfOk (sought (find_in name.now mounts)) (λ bytes. into.new ≡ bytes ++ drop file.now.length into.old))) }
+    ensures rest { drop file.now.length into.new ≡ drop file.now.length into.old }
+    ensures late { IfErr result IsUnreadable }
+    ensures same { SamePath paths.old paths.new }
+    ensures faults { NoneFalls (faults_of paths.old) (faults_of paths.new) }
+    ensures calls { NoneFalls (calls_of paths.old) (calls_of paths.new) }
+    ensures fault { IfErr result (IsLoadFault (faults_of paths.old) (faults_of paths.new)) }
+{
+    match paths.read(file, name, 0, &mut into[..file.length as usize]) {
+        Ok(()) => Ok(()),
+        Err(fault) => Err(LoadError::FolderFault {
+            folder: fault.folder,
+            stage: Stage::Read,
+        }),
+    }
+}

@@ -1,0 +1,49 @@
+// Loading a file into a low block.
+ghost use Rattle.std.specs.Prelude.{◌≡◌, ◌≤◌, length, slice_get, Some, IfErr, IfOk, IfSome, IsSomeAnd, IsErrOf, false};
+ghost use Rattle.mem_model.specs.Laid.{Laid};
+ghost use Rattle.mem_model.specs.Hunk.{low_bytes};
+ghost use Rattle.search_paths.specs.Counts.{NoneFalls};
+ghost use Rattle.search_paths.specs.Path.{mounts_of, faults_of, calls_of, SamePath};
+ghost use Rattle.file_load.specs.Loads.{load_low, Loads, IsLoadFault};
+ghost use Rattle.file_load.specs.Leaves.{LeavesLow, IsEarly};
+
+use crate::errors::LoadError;
+use crate::files::{find_whole, read_whole};
+use base_fields::GameName;
+use mem_model::{Place, Store};
+use outside_io::Folder;
+use search_paths::Paths;
+
+/// Loads the file of this name into a low block of a byte more than it has, named by the name's base, and answers the block's
+/// place and the file's length. The bytes behind the file are zeros.
+///
+/// After `NoRoom` the store is as the refused allocation leaves it, and after a fault at the reading the block stands, with any
+/// bytes. After every other error the store is as before.
+pub fn load_low<M: Store, F: Folder>(
+    store: &mut M,
+    paths: &mut Paths<F>,
+    name: &GameName,
+) -> Result<(Place, u64), LoadError>
+    // Where the folders tell their files: what is loaded, and the first refusal.
+    ensures told { IfSome (mounts_of paths.old) (λ mounts. Loads (load_low mounts (M.state store.old) name.now) result (M.state store.new)) }
+
+    // Whatever they tell: the store, and the block.
+    ensures leaves { LeavesLow (M.state store.old) name.now result (M.state store.new) }
+    ensures there { IfOk result (λ loaded. IsSomeAnd (low_bytes (M.state store.new) loaded.0.0) (λ bytes. loaded.1 ≤ length bytes)) }
+    ensures zero { IfOk result (λ loaded. IsSomeAnd (low_bytes (M.state store.new) loaded.0.0) (λ bytes. slice_get bytes loaded.1 ≡ Some 0)) }
+    ensures early { IfErr result (IsEarly (M.state store.old) (M.state store.new)) }
+    ensures memory { IsErrOf result LoadError.OutOfMemory → (M.frugal ≡ false) × (M.state store.new ≡ M.state store.old) }
+    ensures laid { Laid (M.state store.old) → Laid (M.state store.new) }
+    ensures zone { (M.state store.new).zone ≡ (M.state store.old).zone }
+
+    // The path.
+    ensures same { SamePath paths.old paths.new }
+    ensures faults { NoneFalls (faults_of paths.old) (faults_of paths.new) }
+    ensures calls { NoneFalls (calls_of paths.old) (calls_of paths.new) }
+    ensures fault { IfErr result (IsLoadFault (faults_of paths.old) (faults_of paths.new)) }
+{
+    let file = find_whole(paths, name)?;
+    let place = store.low_alloc(file.length + 1, name.base())?;
+    read_whole(paths, &file, name, store.low_bytes_mut(place))?;
+    Ok((place, file.length))
+}

@@ -1,0 +1,49 @@
+// Loading a file into the temporary block.
+ghost use Rattle.std.specs.Prelude.{◌≡◌, ◌≤◌, length, slice_get, Some, IfErr, IfOk, IfSome, IsSomeAnd, IsErrOf, false};
+ghost use Rattle.mem_model.specs.Laid.{Laid};
+ghost use Rattle.mem_model.specs.Hunk.{temp_bytes, without_temp};
+ghost use Rattle.search_paths.specs.Counts.{NoneFalls};
+ghost use Rattle.search_paths.specs.Path.{mounts_of, faults_of, calls_of, SamePath};
+ghost use Rattle.file_load.specs.Loads.{load_temp, LoadsTemp, IsLoadFault};
+ghost use Rattle.file_load.specs.Leaves.{LeavesTemp, IsEarly};
+
+use crate::errors::LoadError;
+use crate::files::{find_whole, read_whole};
+use base_fields::GameName;
+use mem_model::Store;
+use outside_io::Folder;
+use search_paths::Paths;
+
+/// Loads the file of this name into a temporary block of a byte more than it has, and answers the file's length. The bytes behind
+/// the file are zeros.
+///
+/// After `NoRoom` and `OutOfMemory` no temporary block is active, and after a fault at the reading the block stands, with any
+/// bytes. After every other error the store is as before.
+pub fn load_temp<M: Store, F: Folder>(
+    store: &mut M,
+    paths: &mut Paths<F>,
+    name: &GameName,
+) -> Result<u64, LoadError>
+    // Where the folders tell their files: what is loaded, and the first refusal.
+    ensures told { IfSome (mounts_of paths.old) (λ mounts. LoadsTemp (load_temp mounts (M.state store.old) name.now) result (M.state store.new)) }
+
+    // Whatever they tell: the store, and the block.
+    ensures leaves { LeavesTemp (M.state store.old) result (M.state store.new) }
+    ensures there { IfOk result (λ loaded. IsSomeAnd (temp_bytes (M.state store.new)) (λ bytes. loaded ≤ length bytes)) }
+    ensures zero { IfOk result (λ loaded. IsSomeAnd (temp_bytes (M.state store.new)) (λ bytes. slice_get bytes loaded ≡ Some 0)) }
+    ensures early { IfErr result (IsEarly (M.state store.old) (M.state store.new)) }
+    ensures memory { IsErrOf result LoadError.OutOfMemory → (M.frugal ≡ false) × (M.state store.new ≡ without_temp (M.state store.old)) }
+    ensures laid { Laid (M.state store.old) → Laid (M.state store.new) }
+    ensures zone { (M.state store.new).zone ≡ (M.state store.old).zone }
+
+    // The path.
+    ensures same { SamePath paths.old paths.new }
+    ensures faults { NoneFalls (faults_of paths.old) (faults_of paths.new) }
+    ensures calls { NoneFalls (calls_of paths.old) (calls_of paths.new) }
+    ensures fault { IfErr result (IsLoadFault (faults_of paths.old) (faults_of paths.new)) }
+{
+    let file = find_whole(paths, name)?;
+    let _place = store.temp_alloc(file.length + 1)?;
+    read_whole(paths, &file, name, store.temp_bytes_mut())?;
+    Ok(file.length)
+}
