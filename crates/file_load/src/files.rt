@@ -17,8 +17,10 @@ pub(crate) fn find_whole<F: Folder>(
     paths: &mut Paths<F>,
     name: &GameName,
 ) -> Result<FileRef, LoadError>
-    ensures told { IfSome (mounts_of paths.old) (λ mounts. Finds (sought (find_in name.now mounts)) result) }
-    ensures first { IfOk result (λ file. IfSome (mounts_of paths.old) (λ mounts. first_of name.now mounts ≡ Some file)) }
+    ensures told { IfSome (mounts_of paths.old) (λ mounts.
+        Finds (sought (find_in name.now mounts)) result) }
+    ensures first { IfOk result (λ file. IfSome (mounts_of paths.old) (λ mounts.
+        first_of name.now mounts ≡ Some file)) }
     ensures there { IfOk result (λ file. HasFile name.now file (mount_at file.mount paths.old)) }
     ensures sized { IfOk result (IsFileRef (length (rows_of paths.old))) }
     ensures inside { IfOk result (λ file. file.offset + file.length ≤ file.whole) }

@@ -14,25 +14,29 @@ use mem_model::{Place, Store};
 use outside_io::Folder;
 use search_paths::Paths;
 
-/// Loads the file of this name into a low block of a byte more than it has, named by the name's base, and answers the block's
-/// place and the file's length. The bytes behind the file are zeros.
+/// Loads the file of this name into a low block of a byte more than it has, named by the name's base, and answers the
+/// block's place and the file's length in bytes. The bytes behind the file are zeros.
 ///
-/// After `NoRoom` the store is as the refused allocation leaves it, and after a fault at the reading the block stands, with any
-/// bytes. After every other error the store is as before.
+/// After `NoRoom` the store is as the refused allocation leaves it, and after a fault at the reading the block stands, with
+/// any bytes in it. After every other error the store is as before.
 pub fn load_low<M: Store, F: Folder>(
     store: &mut M,
     paths: &mut Paths<F>,
     name: &GameName,
 ) -> Result<(Place, u64), LoadError>
     // Where the folders tell their files: what is loaded, and the first refusal.
-    ensures told { IfSome (mounts_of paths.old) (λ mounts. Loads (load_low mounts (M.state store.old) name.now) result (M.state store.new)) }
+    ensures told { IfSome (mounts_of paths.old) (λ mounts.
+        Loads (load_low mounts (M.state store.old) name.now) result (M.state store.new)) }
 
     // Whatever they tell: the store, and the block.
     ensures leaves { LeavesLow (M.state store.old) name.now result (M.state store.new) }
-    ensures there { IfOk result (λ loaded. IsSomeAnd (low_bytes (M.state store.new) loaded.0.0) (λ bytes. loaded.1 ≤ length bytes)) }
-    ensures zero { IfOk result (λ loaded. IsSomeAnd (low_bytes (M.state store.new) loaded.0.0) (λ bytes. slice_get bytes loaded.1 ≡ Some 0)) }
+    ensures there { IfOk result (λ loaded.
+        IsSomeAnd (low_bytes (M.state store.new) loaded.0.0) (λ bytes. loaded.1 ≤ length bytes)) }
+    ensures zero { IfOk result (λ loaded.
+        IsSomeAnd (low_bytes (M.state store.new) loaded.0.0) (λ bytes. slice_get bytes loaded.1 ≡ Some 0)) }
     ensures early { IfErr result (IsEarly (M.state store.old) (M.state store.new)) }
-    ensures memory { IsErrOf result LoadError.OutOfMemory → (M.frugal ≡ false) × (M.state store.new ≡ M.state store.old) }
+    ensures memory { IsErrOf result LoadError.OutOfMemory
+        → (M.frugal ≡ false) × (M.state store.new ≡ M.state store.old) }
     ensures laid { Laid (M.state store.old) → Laid (M.state store.new) }
     ensures zone { (M.state store.new).zone ≡ (M.state store.old).zone }
 

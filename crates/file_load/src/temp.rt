@@ -14,25 +14,29 @@ use mem_model::Store;
 use outside_io::Folder;
 use search_paths::Paths;
 
-/// Loads the file of this name into a temporary block of a byte more than it has, and answers the file's length. The bytes behind
-/// the file are zeros.
+/// Loads the file of this name into a temporary block of a byte more than it has, and answers the file's length in bytes.
+/// The bytes behind the file are zeros. A temporary block that was active is freed where the new one is asked for.
 ///
-/// After `NoRoom` and `OutOfMemory` no temporary block is active, and after a fault at the reading the block stands, with any
-/// bytes. After every other error the store is as before.
+/// After `NoRoom` and `OutOfMemory` no temporary block is active, and after a fault at the reading the block stands, with
+/// any bytes in it. After every other error the store is as before.
 pub fn load_temp<M: Store, F: Folder>(
     store: &mut M,
     paths: &mut Paths<F>,
     name: &GameName,
 ) -> Result<u64, LoadError>
     // Where the folders tell their files: what is loaded, and the first refusal.
-    ensures told { IfSome (mounts_of paths.old) (λ mounts. LoadsTemp (load_temp mounts (M.state store.old) name.now) result (M.state store.new)) }
+    ensures told { IfSome (mounts_of paths.old) (λ mounts.
+        LoadsTemp (load_temp mounts (M.state store.old) name.now) result (M.state store.new)) }
 
     // Whatever they tell: the store, and the block.
     ensures leaves { LeavesTemp (M.state store.old) result (M.state store.new) }
-    ensures there { IfOk result (λ loaded. IsSomeAnd (temp_bytes (M.state store.new)) (λ bytes. loaded ≤ length bytes)) }
-    ensures zero { IfOk result (λ loaded. IsSomeAnd (temp_bytes (M.state store.new)) (λ bytes. slice_get bytes loaded ≡ Some 0)) }
+    ensures there { IfOk result (λ loaded.
+        IsSomeAnd (temp_bytes (M.state store.new)) (λ bytes. loaded ≤ length bytes)) }
+    ensures zero { IfOk result (λ loaded.
+        IsSomeAnd (temp_bytes (M.state store.new)) (λ bytes. slice_get bytes loaded ≡ Some 0)) }
     ensures early { IfErr result (IsEarly (M.state store.old) (M.state store.new)) }
-    ensures memory { IsErrOf result LoadError.OutOfMemory → (M.frugal ≡ false) × (M.state store.new ≡ without_temp (M.state store.old)) }
+    ensures memory { IsErrOf result LoadError.OutOfMemory
+        → (M.frugal ≡ false) × (M.state store.new ≡ without_temp (M.state store.old)) }
     ensures laid { Laid (M.state store.old) → Laid (M.state store.new) }
     ensures zone { (M.state store.new).zone ≡ (M.state store.old).zone }
 

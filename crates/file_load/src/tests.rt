@@ -25,8 +25,8 @@ fn pack(alloc: Global, rows: &[(&[u8], u32, u32)]) -> Result<Vec<u8>, AllocError
     Ok(bytes)
 }
 
-// A folder of three files and two packs, whose call of this number fails. An entry of the first pack ends past it, and one of
-// the second ends where the pack does.
+// A folder of three files and two packs, whose call of this number fails. An entry of the first pack ends past it, and one
+// of the second ends where the pack does.
 fn folder(alloc: Global, fails: u64) -> Result<MemFolder, AllocError> {
     let past = pack(alloc, &[(b"x.txt", 70, 10)])?;
     let last = pack(alloc, &[(b"c.txt", 0, 4), (b"sub/end.v1.txt", 134, 6)])?;
@@ -173,8 +173,8 @@ fn files_are_loaded_into_the_temporary_block(rt: HostRuntime) -> Result<(), Fail
     Ok(())
 }
 
-// How a load ends whose folder's call of this number fails, and where the low hunk ends then: `m` at the mounting, `f` at the
-// search, `r` at the reading, `o` not at all.
+// How a load ends whose folder's call of this number fails, and where the low hunk ends then: `m` at the mounting, `f` at
+// the search, `r` at the reading, `o` not at all.
 fn end_of(alloc: Global, fails: u64) -> Result<(u8, u32), Fail> {
     let mut store = PlainStore::create(alloc, ZONE + 16 + 64, ZONE, 8)?;
     let end = match path(alloc, fails)? {
