@@ -1,7 +1,7 @@
 -- Mounts where one more folder is held.
-use Rattle.std.proofs.Common.{◌≡◌, ℕ, zero, suc, ◌<◌, ◌≤◌, ◌+◌, List, [], ◌∷◌, ◌++◌, length, map, reverse, get_or, Option, Some, None, Result, Ok, Err, OnOk, OnErr, IfErr, IsOkAnd, IfSome, All, refl, ap, sym, ◌∙◌, subst, arith}
-use Rattle.std.specs.Prelude.{slice_get, option_map, option_and_then}
-use Rattle.std.specs.Option.{option_flatten, ForSome}
+use Rattle.std.proofs.Common.{◌≡◌, ℕ, suc, ◌<◌, ◌≤◌, ◌+◌, List, [], ◌∷◌, ◌++◌, length, map, reverse, get_or, Option, Some, None, Result, Ok, Err, OnOk, OnErr, IfErr, IsOkAnd, IfSome, All, refl, ap, sym, ◌∙◌, subst, arith}
+use Rattle.std.specs.Prelude.{option_map, option_and_then}
+use Rattle.std.specs.Option.{option_flatten}
 use Rattle.std.proofs.lemmas.List.{get_or_append_left, get_or_push, length-append, length-map, length-reverse, map-append, map_push}
 use Rattle.std.proofs.lemmas.List.Elements.{All-head, All-tail, All-append}
 use Rattle.std.proofs.lemmas.List.Sorted.{All-permutation, IsPermutation-reverse}
@@ -15,7 +15,7 @@ use Rattle.search_paths.specs.declared.mounted.Mounted.{Mounted}
 use Rattle.search_paths.specs.declared.mounted.Mounted.TheVariants as kept
 use Rattle.search_paths.specs.Answers.{pack_rows, AddsRows, IsMounted}
 use Rattle.search_paths.specs.Kept.{told_at, folder_of, row_of, mount_of, IsDirectory}
-use Rattle.search_paths.specs.Mounts.{Mount, folder_mount, pack_mount, pack_name, own_mounts}
+use Rattle.search_paths.specs.Mounts.{folder_mount, pack_mount, pack_name, own_mounts}
 use Rattle.search_paths.specs.Own.{mount_in, IsOwn}
 
 -- what the folders before tell

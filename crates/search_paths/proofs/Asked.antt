@@ -1,15 +1,14 @@
 -- One folder of the list was changed by a call.
-use Rattle.std.proofs.Common.{◌≡◌, ◌≢◌, ℕ, ◌+◌, ◌<◌, ◌≤◌, List, [], ◌∷◌, length, map, get_or, set, Option, Some, None, IfSome, Result, Ok, Err, OnErr, IfErr, refl, sym, ◌∙◌, ap, subst, arith, get_or-set_other, get_or-set_same, inl, inr}
-use Rattle.std.specs.Prelude.{slice_get, slice_index, option_map, min, ◌^◌, ◌-◌}
-use Rattle.std.specs.Option.{option_flatten, ForSome}
+use Rattle.std.proofs.Common.{◌≡◌, ℕ, ◌<◌, ◌≤◌, List, length, map, get_or, set, Option, Ok, Err, sym, ◌∙◌, ap, subst, arith, get_or-set_other, get_or-set_same, inl, inr}
+use Rattle.std.specs.Prelude.{slice_index, option_map}
+use Rattle.std.specs.Option.{option_flatten}
 use Rattle.std.proofs.Math.Seq.{map-set_same}
 use Rattle.std.proofs.lemmas.List.{map-set}
 use Rattle.std.proofs.lemmas.Option.{slice_get-map, slice_get-get_or}
 use Rattle.std.proofs.lemmas.Grind.{common_steps}
 use Rattle.std.proofs.lemmas.Bool.{cases_eq}
-use Rattle.outside_io.specs.Causes.{Rose, HasCause, one_more}
+use Rattle.outside_io.specs.Causes.{Rose}
 use Rattle.outside_io.specs.Files.{File}
-use Rattle.search_paths.specs.declared.answers.FolderFault.{FolderFault}
 use Rattle.search_paths.specs.Counts.{NoneFalls, RoseAt, HasFolderCause}
 use Rattle.search_paths.specs.Kept.{told_at}
 

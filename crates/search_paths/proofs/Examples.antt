@@ -9,7 +9,7 @@ use Rattle.pack_files.specs.declared.faults.PackFault.TheVariants.{NotPack}
 use Rattle.pack_files.specs.Packs.{pack_of}
 use Rattle.search_paths.specs.declared.answers.MountRow.{MountRow}
 use Rattle.search_paths.specs.declared.answers.MountRow.TheVariants.{Folder, Pack}
-use Rattle.search_paths.specs.Mounts.{Mount, BadPack, file_in, find_in, pack_name, packs_of, folder_mount, own_mounts, mounted}
+use Rattle.search_paths.specs.Mounts.{Mount, BadPack, find_in, pack_name, packs_of, folder_mount, own_mounts, mounted}
 
 first_name : pack_name 0 ≡ codes "pak0.pak"
 unfolding digits

@@ -1,6 +1,6 @@
 -- The first mount that has a name, as mounts are asked one after another.
-use Rattle.std.proofs.Common.{◌≡◌, ℕ, suc, ◌+◌, ◌<◌, List, [], ◌∷◌, length, map, drop, get_or, Option, Some, None, IfSome, refl, sym, ap, subst, ◌∙◌, ◌≤◌, add-one, drop-cons, arith}
-use Rattle.std.specs.Prelude.{slice_get, option_map, option_and_then}
+use Rattle.std.proofs.Common.{◌≡◌, ℕ, suc, ◌+◌, ◌<◌, List, ◌∷◌, length, map, drop, get_or, Option, Some, None, IfSome, refl, sym, ap, subst, ◌∙◌, ◌≤◌, add-one, drop-cons, arith}
+use Rattle.std.specs.Prelude.{slice_get, option_map}
 use Rattle.std.specs.Option.{option_flatten, option_or}
 use Rattle.std.proofs.Math.ListN.{get_or-map}
 use Rattle.std.proofs.lemmas.Grind.{common_steps}
@@ -9,7 +9,7 @@ use Rattle.std.proofs.lemmas.Option.{slice_get-map, slice_get_read}
 use Rattle.outside_io.specs.Files.{File}
 use Rattle.search_paths.specs.declared.answers.FileRef.{FileRef}
 use Rattle.search_paths.specs.declared.mounted.Mounted.{Mounted}
-use Rattle.search_paths.specs.Answers.{ref_of, first_of, HasFile}
+use Rattle.search_paths.specs.Answers.{ref_of, HasFile}
 use Rattle.search_paths.specs.Kept.{mount_of}
 use Rattle.search_paths.specs.Mounts.{FileAt, Mount, file_in, find_from}
 use Rattle.search_paths.specs.Path.{all_some}

@@ -11,7 +11,7 @@ use Rattle.search_paths.specs.declared.answers.FileRef.{FileRef}
 use Rattle.search_paths.specs.declared.mounted.Mounted.TheVariants as kept
 use Rattle.search_paths.specs.Answers.{ref_of}
 use Rattle.search_paths.specs.Kept.{told_at, mount_of, IsDirectory}
-use Rattle.search_paths.specs.Mounts.{FileAt, Mount, file_in, file_within, whole_file, packed_file, folder_mount, pack_mount, pack_name}
+use Rattle.search_paths.specs.Mounts.{FileAt, file_in, file_within, whole_file, packed_file, folder_mount, pack_mount, pack_name}
 
 -- a folder's file
 abbrev whole : List ℕ → FileAt

@@ -1,5 +1,5 @@
 -- A folder's mounts, while its packs are read one after another.
-use Rattle.std.proofs.Common.{◌≡◌, ℕ, zero, suc, ◌+◌, ◌≤◌, List, [], ◌∷◌, ◌++◌, length, map, reverse, Option, Some, None, Result, Ok, Err, All, IsOkAnd, IfSome, refl, ap, sym, ◌∙◌, subst, add-zero, arith}
+use Rattle.std.proofs.Common.{◌≡◌, ℕ, zero, suc, ◌+◌, ◌≤◌, List, [], ◌∷◌, ◌++◌, length, map, reverse, Option, Some, None, Ok, Err, All, IsOkAnd, IfSome, refl, ap, sym, ◌∙◌, subst, add-zero, arith}
 use Rattle.std.specs.Prelude.{option_map}
 use Rattle.std.proofs.lemmas.List.{map_push, reverse-append, length-append}
 use Rattle.std.proofs.lemmas.List.Elements.{All-push}
@@ -14,7 +14,7 @@ use Rattle.search_paths.specs.declared.mounted.Mounted.{Mounted}
 use Rattle.search_paths.specs.declared.mounted.Mounted.TheVariants as kept
 use Rattle.search_paths.specs.Answers.{pack_rows, AddsRows, IsMounted}
 use Rattle.search_paths.specs.Kept.{row_of}
-use Rattle.search_paths.specs.Mounts.{Mount, BadPack, pack_name, pack_mount, before_missing, packs_from, in_front, own_mounts, folder_mount}
+use Rattle.search_paths.specs.Mounts.{Mount, pack_name, pack_mount, before_missing, packs_from, in_front, own_mounts, folder_mount}
 use Rattle.search_paths.specs.Own.{mount_in, IsFound, IsOwn}
 
 -- The first packs of the folder are mounted, up to this number and in their order, and with so many more from there on the

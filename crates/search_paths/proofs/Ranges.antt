@@ -11,7 +11,7 @@ use Rattle.search_paths.specs.declared.mounted.Mounted.TheVariants as kept
 use Rattle.search_paths.specs.Answers.{ref_of, HasFile, IsFilePart}
 use Rattle.search_paths.specs.Kept.{told_at, mount_of, IsDirectory}
 use Rattle.search_paths.specs.Mounts.{FileAt, Mount, cut, file_in, file_within, whole_file, packed_file, folder_mount, pack_mount, pack_name}
-use Rattle.search_paths.proofs.Looking.{file_in-folder, file_in-pack, size_of_pack}
+use Rattle.search_paths.proofs.Looking.{file_in-folder, file_in-pack}
 
 -- a part of a part
 part_of_part : (whole : List ℕ) (offset size at n : ℕ) → at + n ≤ size → slice_range (slice_range whole offset (offset + size)) at (at + n) ≡ slice_range whole (offset + at) (offset + at + n)

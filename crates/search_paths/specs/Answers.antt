@@ -1,12 +1,12 @@
 -- What the calls of the path answer.
-use Rattle.std.specs.Prelude.{◌≡◌, ℕ, ◌+◌, ◌^◌, ◌<◌, ◌≤◌, List, [], ◌∷◌, ◌++◌, length, map, reverse, slice_range, Option, Some, None, option_map, IfSome, IsOkAnd, Result, Ok, Err, ⊤}
+use Rattle.std.specs.Prelude.{◌≡◌, ℕ, ◌+◌, ◌^◌, ◌<◌, ◌≤◌, List, [], ◌∷◌, ◌++◌, length, map, reverse, slice_range, Option, Some, option_map, IfSome, IsOkAnd, Result, Ok, Err, ⊤}
 use Rattle.outside_io.specs.Causes.{Rose}
 use Rattle.search_paths.specs.declared.answers.FileRef.{FileRef}
 use Rattle.search_paths.specs.declared.answers.MountError.{MountError}
 use Rattle.search_paths.specs.declared.answers.MountError.TheVariants as error
 use Rattle.search_paths.specs.declared.answers.MountRow.{MountRow}
 use Rattle.search_paths.specs.declared.answers.MountRow.TheVariants as row
-use Rattle.search_paths.specs.Mounts.{FileAt, Mount, BadPack, file_in, find_in}
+use Rattle.search_paths.specs.Mounts.{FileAt, Mount, BadPack, bad_pack, file_in, find_in}
 
 -- where a file stands on the path, in the mount of this number
 abbrev pub ref_of : ℕ → FileAt → FileRef
@@ -20,9 +20,13 @@ first_of name mounts = option_map (λ found. ref_of found.0 found.1) (find_in na
 abbrev pub HasFile : List ℕ → FileRef → Option Mount → Type 0
 HasFile name file mount = IfSome mount (λ m. option_map (ref_of file.mount) (file_in name m.files) ≡ Some file)
 
--- where it tells its files, these are the bytes of its file of this name from `at` on, where the file lies inside
+-- these are the file's bytes from `at` on, where it lies inside
+abbrev pub IsPart : ℕ → List ℕ → FileAt → Type 0
+IsPart at part file = IfSome file.bytes (λ bytes. part ≡ slice_range bytes at (at + length part))
+
+-- where the mount tells its files, these are the bytes of its file of this name from `at` on
 abbrev pub IsFilePart : List ℕ → ℕ → List ℕ → Option Mount → Type 0
-IsFilePart name at part mount = IfSome mount (λ m. IfSome (file_in name m.files) (λ file. IfSome file.bytes (λ bytes. part ≡ slice_range bytes at (at + length part))))
+IsFilePart name at part mount = IfSome mount (λ m. IfSome (file_in name m.files) (IsPart at part))
 
 -- how large the numbers are of a file on a path of so many mounts
 pub record IsFileRef (mounts : ℕ) (file : FileRef) : Type 0 where
@@ -32,9 +36,10 @@ pub record IsFileRef (mounts : ℕ) (file : FileRef) : Type 0 where
 
 -- The mounts of the folder stand in front of those before, or the bad pack is its first. A fault of the folder and a want of
 -- memory say nothing of its packs.
-abbrev pub IsMounted : Result (List Mount) BadPack → List (Option Mount) → List (Option Mount) → Result (Unit {0}) MountError → Type 0
+abbrev pub IsMounted : Result (List Mount) BadPack → List (Option Mount) → List (Option Mount) → Result (Unit {0}) MountError
+    → Type 0
 IsMounted own before after (Ok done) = IsOkAnd own (λ mounts. after ≡ map Some mounts ++ before)
-IsMounted own before after (Err (error.BadPack folder pack fault)) = own ≡ Err (record { folder = folder; pack = pack; fault = fault })
+IsMounted own before after (Err (error.BadPack folder pack fault)) = own ≡ Err (bad_pack folder pack fault)
 IsMounted own before after (Err (error.FolderFault folder)) = ⊤
 IsMounted own before after (Err error.OutOfMemory) = ⊤
 
@@ -45,7 +50,8 @@ pack_rows folder number (count ∷ counts) = row.Pack folder number count ∷ pa
 
 -- the folder's row, and at most 32 of its packs, the last first, stand in front of those before
 abbrev pub AddsRows : ℕ → List MountRow → List MountRow → Type 0
-AddsRows folder before after = (counts : List ℕ) × (length counts ≤ 32) × (after ≡ reverse (pack_rows folder 0 counts) ++ row.Folder folder ∷ before)
+AddsRows folder before after =
+    (counts : List ℕ) × (length counts ≤ 32) × (after ≡ reverse (pack_rows folder 0 counts) ++ row.Folder folder ∷ before)
 
 -- an error of a folder names the one of this number
 abbrev pub IsOfFolder : ℕ → MountError → Type 0

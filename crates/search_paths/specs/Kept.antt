@@ -1,5 +1,5 @@
 -- What is kept of mounts, and what it means by what the folders tell.
-use Rattle.std.specs.Prelude.{◌≡◌, ℕ, ◌<◌, ⊤, List, [], ◌∷◌, length, map, reverse, slice_get, Option, Some, None, option_map, option_and_then, Ok}
+use Rattle.std.specs.Prelude.{◌≡◌, ℕ, List, slice_get, Option, Some, option_map, option_and_then, Ok}
 use Rattle.std.specs.Option.{option_flatten, ForSome}
 use Rattle.outside_io.specs.Files.{File, bytes_of}
 use Rattle.pack_files.specs.Packs.{PackTable, pack_of}
@@ -27,7 +27,8 @@ row_of (kept.Pack folder pack directory) = row.Pack folder pack directory.count
 abbrev pub mount_of : List (Option (List File)) → Mounted → Option Mount
 mount_of told (kept.Folder folder) = option_map (folder_mount folder) (told_at folder told)
 mount_of told (kept.Pack folder pack directory) =
-    option_map (λ bytes. pack_mount folder pack bytes directory) (option_and_then (bytes_of (pack_name pack)) (told_at folder told))
+    option_map (λ bytes. pack_mount folder pack bytes directory)
+    (option_and_then (bytes_of (pack_name pack)) (told_at folder told))
 
 -- a directory is that of the folder's pack of this number
 abbrev pub IsDirectory : List (Option (List File)) → Mounted → Type 0

@@ -1,15 +1,14 @@
 -- Mounts: what has files by their names, and the path of them.
-use Rattle.std.specs.Prelude.{◌≡◌, ℕ, zero, suc, ◌+◌, ◌<◌, ◌≤◌, nat_le, if◌then◌else◌, List, [], ◌∷◌, ◌++◌, length, map, reverse, slice_get, slice_range, Option, Some, None, option_map, option_and_then, IfSome, Result, Ok, Err, bytes_eq, codes, decimal}
+use Rattle.std.specs.Prelude.{ℕ, zero, suc, ◌+◌, nat_le, if◌then◌else◌, List, [], ◌∷◌, ◌++◌, length, map, slice_range, Option, Some, None, option_map, Result, Ok, Err, bytes_eq, codes, decimal}
 use Rattle.std.specs.Option.{option_or}
 use Rattle.std.specs.Result.{result_map_both}
 use Rattle.outside_io.specs.Files.{File, bytes_of}
-use Rattle.pack_files.specs.declared.entries.Entry.{Entry}
 use Rattle.pack_files.specs.declared.faults.PackFault.{PackFault}
 use Rattle.pack_files.specs.Packs.{Row, PackTable, pack_of}
 use Rattle.search_paths.specs.declared.answers.MountRow.{MountRow}
 use Rattle.search_paths.specs.declared.answers.MountRow.TheVariants as row
 
--- a file: how many bytes that has in which it lies, where it lies there, how many bytes it has, and these, where it lies inside
+-- a file: the size of what it lies in, where it lies there, how many bytes it has, and these, where it lies inside
 pub record FileAt : Type 0 where
   pub whole : ℕ
   pub offset : ℕ
@@ -18,7 +17,8 @@ pub record FileAt : Type 0 where
 
 -- the part of these bytes, where it lies inside
 abbrev pub cut : List ℕ → ℕ → ℕ → Option (List ℕ)
-cut bytes offset size = if nat_le (offset + size) (length bytes) then Some (slice_range bytes offset (offset + size)) else None
+cut bytes offset size =
+    if nat_le (offset + size) (length bytes) then Some (slice_range bytes offset (offset + size)) else None
 
 abbrev pub file_within : List ℕ → ℕ → ℕ → FileAt
 file_within bytes offset size = record { whole = length bytes; offset = offset; size = size; bytes = cut bytes offset size }
@@ -49,12 +49,14 @@ abbrev pub packed_file : List ℕ → Row → Named
 packed_file bytes row = record { name = row.name; file = file_within bytes row.entry.offset row.entry.length }
 
 abbrev pub pack_mount : ℕ → ℕ → List ℕ → PackTable → Mount
-pack_mount folder pack bytes table = record { row = row.Pack folder pack table.count; files = map (packed_file bytes) table.rows }
+pack_mount folder pack bytes table =
+    record { row = row.Pack folder pack table.count; files = map (packed_file bytes) table.rows }
 
 -- the first mount that has the name, and its file; the first mount has this number
 abbrev pub find_from : ℕ → List ℕ → List Mount → Option (ℕ × FileAt)
 find_from number name [] = None
-find_from number name (mount ∷ mounts) = option_or (option_map (λ file. (number, file)) (file_in name mount.files)) (find_from (number + 1) name mounts)
+find_from number name (mount ∷ mounts) =
+    option_or (option_map (λ file. (number, file)) (file_in name mount.files)) (find_from (number + 1) name mounts)
 
 abbrev pub find_in : List ℕ → List Mount → Option (ℕ × FileAt)
 find_in name mounts = find_from 0 name mounts
@@ -81,18 +83,22 @@ pub record BadPack : Type 0 where
   pub pack : ℕ
   pub fault : PackFault
 
+abbrev pub bad_pack : ℕ → ℕ → PackFault → BadPack
+bad_pack folder pack fault = record { folder = folder; pack = pack; fault = fault }
+
 abbrev pub result_and_then : {T U E : Type 0} → Result T E → (T → Result U E) → Result U E
 result_and_then (Ok value) next = next value
 result_and_then (Err error) next = Err error
 
 -- the mount of these bytes as a pack
 abbrev pub pack_in : ℕ → ℕ → List ℕ → Result Mount BadPack
-pack_in folder number bytes = result_map_both (pack_mount folder number bytes) (λ fault. record { folder = folder; pack = number; fault = fault }) (pack_of bytes)
+pack_in folder number bytes = result_map_both (pack_mount folder number bytes) (bad_pack folder number) (pack_of bytes)
 
 -- these packs, the first of this number, one after another in front of the mounts, or the first of them that is bad
 abbrev pub in_front : ℕ → ℕ → List (List ℕ) → List Mount → Result (List Mount) BadPack
 in_front folder number [] mounts = Ok mounts
-in_front folder number (bytes ∷ packs) mounts = result_and_then (pack_in folder number bytes) (λ mount. in_front folder (number + 1) packs (mount ∷ mounts))
+in_front folder number (bytes ∷ packs) mounts =
+    result_and_then (pack_in folder number bytes) (λ mount. in_front folder (number + 1) packs (mount ∷ mounts))
 
 -- the mounts of a folder: it and its packs, the last first; or its first bad pack
 abbrev pub own_mounts : ℕ → List File → Result (List Mount) BadPack
@@ -101,7 +107,8 @@ own_mounts folder files = in_front folder 0 (packs_of files) (folder_mount folde
 -- folders, the first of this number, one after another in front of the mounts, or the first bad pack
 abbrev pub with_folders : ℕ → List (List File) → List Mount → Result (List Mount) BadPack
 with_folders number [] mounts = Ok mounts
-with_folders number (files ∷ folders) mounts = result_and_then (own_mounts number files) (λ own. with_folders (number + 1) folders (own ++ mounts))
+with_folders number (files ∷ folders) mounts =
+    result_and_then (own_mounts number files) (λ own. with_folders (number + 1) folders (own ++ mounts))
 
 -- the path of these folders, or the first bad pack
 abbrev pub mounted : List (List File) → Result (List Mount) BadPack

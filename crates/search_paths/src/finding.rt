@@ -1,11 +1,12 @@
 // Finding a file on the path, and reading it.
-ghost use Rattle.std.specs.Prelude.{◌≡◌, ◌<◌, ◌≤◌, ◌+◌, ◌*◌, ◌^◌, All, ℕ, List, length, map, option_map, slice_get, IfOk, IfSome, OnOk};
+ghost use Rattle.std.specs.Prelude.{◌≡◌, ◌<◌, ◌≤◌, ◌+◌, ◌*◌, ◌^◌, ℕ, List, length, map, option_map, slice_get};
+ghost use Rattle.std.specs.Prelude.{All, IfOk, IfSome, OnOk};
 ghost use Rattle.std.specs.Option.{option_flatten};
 ghost use Rattle.search_paths.specs.Answers.{ref_of, first_of, HasFile, IsFileRef, IsFilePart};
 ghost use Rattle.search_paths.specs.Counts.{NoneFalls, HasFolderCause};
 ghost use Rattle.search_paths.specs.Kept.{folder_of, mount_of, IsDirectory};
 ghost use Rattle.search_paths.specs.Mounts.{file_in, packed_file};
-ghost use Rattle.search_paths.specs.Path.{all_some, rows_of, mounts_of, mount_at, faults_of, calls_of, SamePath};
+ghost use Rattle.search_paths.specs.Path.{all_some, rows_of, mounts_of, mount_at, counts_of, SamePath};
 
 use crate::answers::{FileRef, FolderFault};
 use crate::folders::{length_in, read_in};
@@ -20,12 +21,13 @@ impl<F: Folder> Paths<F> {
     /// The file of the first mount that has the name, or `None` exactly where no mount has it. A folder's fault comes only
     /// where it is counted.
     pub fn find(&mut self, name: &GameName) -> Result<Option<FileRef>, FolderFault>
-        ensures first { IfOk result (λ file. IfSome (mounts_of self.old) (λ mounts. file ≡ first_of name.now mounts)) }
-        ensures there { IfOk result (λ file. IfSome file (λ found. HasFile name.now found (mount_at found.mount self.old))) }
+        ensures first { IfOk result (λ file. IfSome (mounts_of F.files self.old) (λ mounts. file ≡ first_of name.now mounts)) }
+        ensures there { IfOk result (λ file.
+            IfSome file (λ found. HasFile name.now found (mount_at F.files found.mount self.old))) }
         ensures sized { IfOk result (λ file. IfSome file (IsFileRef (length (rows_of self.old)))) }
-        ensures same { SamePath self.old self.new }
-        ensures cause { HasFolderCause (faults_of self.old) (faults_of self.new) result }
-        ensures calls { NoneFalls (calls_of self.old) (calls_of self.new) }
+        ensures same { SamePath F.files self.old self.new }
+        ensures cause { HasFolderCause (counts_of F.folder_faults self.old) (counts_of F.folder_faults self.new) result }
+        ensures calls { NoneFalls (counts_of F.folder_calls self.old) (counts_of F.folder_calls self.new) }
     {
         find_first(&mut self.folders, &self.mounts, name.bytes())
     }
@@ -40,14 +42,14 @@ impl<F: Folder> Paths<F> {
         into: &mut [u8],
     ) -> Result<(), FolderFault>
         requires mount { file.now.mount < length (rows_of self.old) }
-        requires there { HasFile name.now file.now (mount_at file.now.mount self.old) }
+        requires there { HasFile name.now file.now (mount_at F.files file.now.mount self.old) }
         requires short { file.now.length < 2 ^ 62 }
         requires inside { file.now.offset + file.now.length ≤ file.now.whole }
         requires range { at + length into.old ≤ file.now.length }
-        ensures filled { OnOk result (IsFilePart name.now at into.new (mount_at file.now.mount self.old)) }
-        ensures same { SamePath self.old self.new }
-        ensures cause { HasFolderCause (faults_of self.old) (faults_of self.new) result }
-        ensures calls { NoneFalls (calls_of self.old) (calls_of self.new) }
+        ensures filled { OnOk result (IsFilePart name.now at into.new (mount_at F.files file.now.mount self.old)) }
+        ensures same { SamePath F.files self.old self.new }
+        ensures cause { HasFolderCause (counts_of F.folder_faults self.old) (counts_of F.folder_faults self.new) result }
+        ensures calls { NoneFalls (counts_of F.folder_calls self.old) (counts_of F.folder_calls self.new) }
     {
         let mounted = &self.mounts[file.mount as usize];
         read_from(&mut self.folders, mounted, file, name.bytes(), at, into)
@@ -63,8 +65,10 @@ fn find_first<F: Folder>(
     requires few { length mounts.now ≤ 33 * 65536 }
     requires inside { All (λ mounted. folder_of mounted < length folders.old) mounts.now }
     requires read { All (IsDirectory (map F.files folders.old)) mounts.now }
-    ensures first { IfOk result (λ file. IfSome (all_some (map (mount_of (map F.files folders.old)) mounts.now)) (λ all. file ≡ first_of name.now all)) }
-    ensures there { IfOk result (λ file. IfSome file (λ found. HasFile name.now found (option_flatten (slice_get (map (mount_of (map F.files folders.old)) mounts.now) found.mount)))) }
+    ensures first { IfOk result (λ file. IfSome (all_some (map (mount_of (map F.files folders.old)) mounts.now)) (λ all.
+        file ≡ first_of name.now all)) }
+    ensures there { IfOk result (λ file. IfSome file (λ found.
+        HasFile name.now found (option_flatten (slice_get (map (mount_of (map F.files folders.old)) mounts.now) found.mount)))) }
     ensures sized { IfOk result (λ file. IfSome file (IsFileRef (length mounts.now))) }
     ensures told { map F.files folders.new ≡ map F.files folders.old }
     ensures cause { HasFolderCause (map F.folder_faults folders.old) (map F.folder_faults folders.new) result }
@@ -89,7 +93,8 @@ fn find_in<F: Folder>(
 ) -> Result<Option<FileRef>, FolderFault>
     requires inside { folder_of mounted.now < length folders.old }
     requires read { IsDirectory (map F.files folders.old) mounted.now }
-    ensures found { IfOk result (λ file. IfSome (mount_of (map F.files folders.old) mounted.now) (λ mount. file ≡ option_map (ref_of number) (file_in name.now mount.files))) }
+    ensures found { IfOk result (λ file. IfSome (mount_of (map F.files folders.old) mounted.now) (λ mount.
+        file ≡ option_map (ref_of number) (file_in name.now mount.files))) }
     ensures number { IfOk result (λ file. IfSome file (λ found. found.mount ≡ number)) }
     ensures sized { IfOk result (λ file. IfSome file (IsFileRef (number + 1))) }
     ensures told { map F.files folders.new ≡ map F.files folders.old }
@@ -115,7 +120,8 @@ fn find_in<F: Folder>(
 fn find_packed(directory: &Pack, number: u32, name: &[u8]) -> Option<FileRef>
     ensures number { IfSome result (λ found. found.mount ≡ number) }
     ensures sized { IfSome result (IsFileRef (number + 1)) }
-    ensures found { (bytes : List ℕ) → length bytes ≡ directory.now.whole → result ≡ option_map (ref_of number) (file_in name.now (map (packed_file bytes) directory.now.rows)) }
+    ensures found { (bytes : List ℕ) → length bytes ≡ directory.now.whole
+        → result ≡ option_map (ref_of number) (file_in name.now (map (packed_file bytes) directory.now.rows)) }
 {
     match directory.entry(name) {
         Some(entry) => Some(FileRef {

@@ -15,7 +15,8 @@ pub(crate) fn length_in<F: Folder>(
     name: &[u8],
 ) -> Result<Option<u64>, FolderFault>
     requires { folder < length folders.old }
-    ensures length { IfOk result (λ len. IfSome (told_at folder (map F.files folders.old)) (λ files. len ≡ length_of name.now files)) }
+    ensures length { IfOk result (λ len.
+        IfSome (told_at folder (map F.files folders.old)) (λ files. len ≡ length_of name.now files)) }
     ensures limit { IfOk result (λ len. IfSome len (λ n. n < 2 ^ 62)) }
     ensures told { map F.files folders.new ≡ map F.files folders.old }
     ensures cause { HasFolderCause (map F.folder_faults folders.old) (map F.folder_faults folders.new) result }

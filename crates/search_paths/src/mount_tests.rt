@@ -2,7 +2,7 @@
 ghost use Rattle.std.specs.Prelude.{◌<◌, ◌^◌, vec_len, IfOk};
 
 use super::*;
-use outside_io::{MemFile, MemFolder};
+use outside_io::{Folder, MemFile, MemFolder};
 use pack_files::PackFault;
 use std::alloc::{AllocError, Global};
 use std::test::Fail;
@@ -47,17 +47,25 @@ const fn packed(folder: u32, pack: u32, count: u32) -> Option<MountRow> {
     })
 }
 
-// What mounting answers after a folder with two packs was mounted, and the rows then.
-fn mount_second(
-    alloc: Global,
-    second: MemFolder,
-) -> Result<(Result<(), MountError>, [Option<MountRow>; 6]), Fail> {
+// What came of mounting a folder: the answer, the rows then, and how many calls of the folder had failed.
+#[derive(Drop)]
+struct Mounting {
+    answer: Result<(), MountError>,
+    rows: [Option<MountRow>; 6],
+    faults: u64,
+}
+
+// Mounts this folder after one with two packs.
+fn mount_second(alloc: Global, second: MemFolder) -> Result<Mounting, Fail> {
     let mut paths = Paths::create(alloc)?;
     let first = folder(alloc, &[(1, 1), (0, 2)], 9)?;
     if let Err(error) = paths.mount(alloc, first) {
         return Err(Fail::from(error));
     }
     let answer = paths.mount(alloc, second);
+    if let Err(MountError::OutOfMemory) = answer {
+        return Err(Fail::from(AllocError));
+    }
     let rows = [
         paths.row(0),
         paths.row(1),
@@ -66,7 +74,12 @@ fn mount_second(
         paths.row(4),
         paths.row(5),
     ];
-    Ok((answer, rows))
+    let faults = paths.take_folder(1).faults_seen();
+    Ok(Mounting {
+        answer,
+        rows,
+        faults,
+    })
 }
 
 #[test]
@@ -105,7 +118,9 @@ fn the_packs_of_a_folder_stand_in_front_of_it(rt: HostRuntime) -> Result<(), Fai
     ];
     for (packs, answer, rows) in cases {
         let mounted = mount_second(alloc, folder(alloc, packs, 9)?)?;
-        assert_eq!(rt; mounted, (answer, rows), "{packs:?}");
+        assert_eq!(rt; mounted.answer, answer, "{packs:?}");
+        assert_eq!(rt; mounted.rows, rows, "{packs:?}");
+        assert_eq!(rt; mounted.faults, 0, "{packs:?}");
     }
     Ok(())
 }
@@ -114,13 +129,13 @@ fn the_packs_of_a_folder_stand_in_front_of_it(rt: HostRuntime) -> Result<(), Fai
 fn a_fault_leaves_the_path(rt: HostRuntime) -> Result<(), Fail> {
     let alloc = rt.alloc();
     let [one, two, three] = [packed(0, 1, 1), packed(0, 0, 2), plain(0)];
-    let fault = (
-        Err(MountError::FolderFault { folder: 1 }),
-        [one, two, three, None, None, None],
-    );
+    let fault = Err(MountError::FolderFault { folder: 1 });
+    let rows = [one, two, three, None, None, None];
     for fails in 0..7 {
         let mounted = mount_second(alloc, folder(alloc, &[(0, 3), (1, 4)], fails)?)?;
-        assert_eq!(rt; mounted, fault, "{fails}");
+        assert_eq!(rt; mounted.answer, fault, "{fails}");
+        assert_eq!(rt; mounted.rows, rows, "{fails}");
+        assert_eq!(rt; mounted.faults, 1, "{fails}");
     }
     Ok(())
 }

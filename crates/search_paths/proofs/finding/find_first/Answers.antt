@@ -1,4 +1,4 @@
-use Rattle.std.proofs.Common.{◌≡◌, ◌≤◌, ◌∙◌, map, length, arith}
+use Rattle.std.proofs.Common.{◌≤◌, ◌∙◌, map, length, arith}
 use Rattle.std.proofs.lemmas.Grind.{common_steps}
 use Rattle.search_paths.specs.Kept.{mount_of}
 use Rattle.search_paths.proofs.Asked.{falls_never}

@@ -1,9 +1,8 @@
-use Rattle.std.proofs.Common.{◌≡◌, ◌+◌, ◌≤◌, map, length, subst, sym, ◌∙◌, ap, Result, Ok, Err, arith}
+use Rattle.std.proofs.Common.{◌≡◌, ◌+◌, ◌≤◌, map, length, subst, sym, Result, Ok, Err, arith}
 use Rattle.std.specs.Prelude.{OnOk, IfSome}
 use Rattle.std.specs.Option.{ForSome}
 use Rattle.outside_io.specs.Files.{HasRange, IsPartOf}
-use Rattle.search_paths.specs.Answers.{IsFilePart}
-use Rattle.search_paths.specs.Kept.{told_at, mount_of, IsDirectory}
+use Rattle.search_paths.specs.Kept.{told_at, IsDirectory}
 use Rattle.search_paths.specs.Mounts.{pack_name}
 use Rattle.search_paths.proofs.Ranges.{folder_range, folder_part, pack_range, pack_part}
 use Rattle.search_paths.proofs.finding.read_from.Goals as goal
