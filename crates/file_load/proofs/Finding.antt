@@ -3,12 +3,11 @@ use Rattle.std.proofs.Common.{◌≡◌, ℕ, ◌+◌, ◌<◌, ◌≤◌, List,
 use Rattle.std.specs.Prelude.{slice_range, option_map, IsSomeAnd}
 use Rattle.std.specs.Option.{ok_or}
 use Rattle.std.proofs.lemmas.Grind.{common_steps}
-use Rattle.outside_io.specs.declared.outside.Folder.{Ghosts}
+use Rattle.outside_io.specs.Files.{File}
 use Rattle.search_paths.specs.declared.answers.FileRef.{FileRef}
-use Rattle.search_paths.specs.declared.path.Paths.{Paths}
 use Rattle.search_paths.specs.Answers.{ref_of, first_of, IsFilePart}
 use Rattle.search_paths.specs.Mounts.{FileAt, Mount, file_in, find_in}
-use Rattle.search_paths.specs.Path.{mounts_of, mount_at}
+use Rattle.search_paths.specs.Path.{PathState, mounts_of, mount_at}
 use Rattle.search_paths.proofs.FindLaws.{IsCut, mount_at-told, find_in-found, found-cut, bytes-inside, bytes-outside}
 use Rattle.file_load.specs.Loads.{Beyond, sought}
 use Rattle.file_load.specs.Files.{Finds}
@@ -21,42 +20,42 @@ record IsAt (name : List ℕ) (file : FileRef) (mount : Option Mount) (given : O
   has : IsSomeAnd mount (λ m. file_in name m.files ≡ Some at)
   cut : IsCut at
 
-module _ {F : Type 0} {g : Ghosts F} (paths : Paths F g) (name : List ℕ) where
-  stands : (file : FileRef) (all : List Mount) → mounts_of paths ≡ Some all → first_of name all ≡ Some file → IsAt name file (mount_at file.mount paths) (find_in name all)
+module _ {F : Type 0} (files : F → Option (List File)) (path : PathState F) (name : List ℕ) where
+  stands : (file : FileRef) (all : List Mount) → mounts_of files path ≡ Some all → first_of name all ≡ Some file → IsAt name file (mount_at files file.mount path) (find_in name all)
   stands file all told first = by (find_in name all) refl first
     where
-      here : (found : ℕ × FileAt) → find_in name all ≡ Some found → IsAt name (ref_of found.0 found.1) (mount_at found.0 paths) (Some found)
+      here : (found : ℕ × FileAt) → find_in name all ≡ Some found → IsAt name (ref_of found.0 found.1) (mount_at files found.0 path) (Some found)
       here found is =
           let known = find_in-found name all found is in
-          let told_there : mount_at found.0 paths ≡ Some known.mount = mount_at-told paths all found.0 told ∙ known.at in
+          let told_there : mount_at files found.0 path ≡ Some known.mount = mount_at-told files path all found.0 told ∙ known.at in
           record {
             at = found.1;
             found = refl;
             is = refl;
             has = subst (λ m. IsSomeAnd m (λ (m : Mount). file_in name m.files ≡ Some found.1)) (sym told_there) known.has;
-            cut = found-cut paths all name found.0 found.1 told known;
+            cut = found-cut files path all name found.0 found.1 told known;
           }
 
-      by : (found : Option (ℕ × FileAt)) → find_in name all ≡ found → option_map (λ f. ref_of f.0 f.1) found ≡ Some file → IsAt name file (mount_at file.mount paths) found
+      by : (found : Option (ℕ × FileAt)) → find_in name all ≡ found → option_map (λ f. ref_of f.0 f.1) found ≡ Some file → IsAt name file (mount_at files file.mount path) found
       by None is known = absurd (cc)
-      by (Some found) is known = let same : ref_of found.0 found.1 ≡ file = cc in subst (λ (f : FileRef). IsAt name f (mount_at f.mount paths) (Some found)) same (here found is)
+      by (Some found) is known = let same : ref_of found.0 found.1 ≡ file = cc in subst (λ (f : FileRef). IsAt name f (mount_at files f.mount path) (Some found)) same (here found is)
 
   -- a fact of the first file
-  by_first : (file : FileRef) (P : Option (ℕ × FileAt) → Type 0) → IfSome (mounts_of paths) (λ all. Some file ≡ first_of name all)
-      → ((found : Option (ℕ × FileAt)) → IsAt name file (mount_at file.mount paths) found → P found) → IfSome (mounts_of paths) (λ all. P (find_in name all))
-  by_first file P first each = by (mounts_of paths) refl first
+  by_first : (file : FileRef) (P : Option (ℕ × FileAt) → Type 0) → IfSome (mounts_of files path) (λ all. Some file ≡ first_of name all)
+      → ((found : Option (ℕ × FileAt)) → IsAt name file (mount_at files file.mount path) found → P found) → IfSome (mounts_of files path) (λ all. P (find_in name all))
+  by_first file P first each = by (mounts_of files path) refl first
     where
-      by : (given : Option (List Mount)) → mounts_of paths ≡ given → IfSome given (λ all. Some file ≡ first_of name all) → IfSome given (λ all. P (find_in name all))
+      by : (given : Option (List Mount)) → mounts_of files path ≡ given → IfSome given (λ all. Some file ≡ first_of name all) → IfSome given (λ all. P (find_in name all))
       by None is known = tt
       by (Some all) is known = each (find_in name all) (stands file all is (sym known))
 
   module _ (file : FileRef) where
     -- it ends past what it lies in
-    pub past : (end : ℕ) → end ≡ file.offset + file.length → file.whole < end → IfSome (mounts_of paths) (λ all. Some file ≡ first_of name all)
-        → IfSome (mounts_of paths) (λ all. sought (find_in name all) ≡ Err (Beyond end file.whole))
+    pub past : (end : ℕ) → end ≡ file.offset + file.length → file.whole < end → IfSome (mounts_of files path) (λ all. Some file ≡ first_of name all)
+        → IfSome (mounts_of files path) (λ all. sought (find_in name all) ≡ Err (Beyond end file.whole))
     past end is beyond first = by_first file (λ found. sought found ≡ Err (Beyond end file.whole)) first here
       where
-        here : (found : Option (ℕ × FileAt)) → IsAt name file (mount_at file.mount paths) found → sought found ≡ Err (Beyond end file.whole)
+        here : (found : Option (ℕ × FileAt)) → IsAt name file (mount_at files file.mount path) found → sought found ≡ Err (Beyond end file.whole)
         here found stands =
             let at = stands.at in
             let outside : at.whole < at.offset + at.size = omega (arith, is, beyond, ap (λ (r : FileRef). r.whole) stands.is, ap (λ (r : FileRef). r.offset) stands.is, ap (λ (r : FileRef). r.length) stands.is) in
@@ -65,18 +64,18 @@ module _ {F : Type 0} {g : Ghosts F} (paths : Paths F g) (name : List ℕ) where
             ∙ ap (λ n. Err (Beyond n at.whole)) ends ∙ ap (λ (r : FileRef). Err (Beyond end r.whole)) stands.is
 
     -- its bytes, where it ends inside
-    its_bytes : file.offset + file.length ≤ file.whole → (found : Option (ℕ × FileAt)) → (s : IsAt name file (mount_at file.mount paths) found) → (bytes : List ℕ) × (s.at.bytes ≡ Some bytes) × (file.length ≡ length bytes)
+    its_bytes : file.offset + file.length ≤ file.whole → (found : Option (ℕ × FileAt)) → (s : IsAt name file (mount_at files file.mount path) found) → (bytes : List ℕ) × (s.at.bytes ≡ Some bytes) × (file.length ≡ length bytes)
     its_bytes inside found stands = by stands.at.bytes refl (bytes-inside stands.at stands.cut (omega (arith, inside, ap (λ (r : FileRef). r.whole) stands.is, ap (λ (r : FileRef). r.offset) stands.is, ap (λ (r : FileRef). r.length) stands.is)))
       where
         by : (given : Option (List ℕ)) → stands.at.bytes ≡ given → IsSomeAnd given (λ bytes. length bytes ≡ stands.at.size) → (bytes : List ℕ) × (stands.at.bytes ≡ Some bytes) × (file.length ≡ length bytes)
         by None is sized = absurd sized
         by (Some bytes) is sized = (bytes, is, sym (ap (λ (r : FileRef). r.length) stands.is) ∙ sym sized)
 
-    sought_is : (found : Option (ℕ × FileAt)) (s : IsAt name file (mount_at file.mount paths) found) (bytes : List ℕ) → s.at.bytes ≡ Some bytes → sought found ≡ Ok bytes
+    sought_is : (found : Option (ℕ × FileAt)) (s : IsAt name file (mount_at files file.mount path) found) (bytes : List ℕ) → s.at.bytes ≡ Some bytes → sought found ≡ Ok bytes
     sought_is found stands bytes is = ap sought stands.found ∙ ap (λ given. ok_or given (Beyond (stands.at.offset + stands.at.size) stands.at.whole)) is
 
     -- it ends inside
-    pub within : file.offset + file.length ≤ file.whole → IfSome (mounts_of paths) (λ all. Some file ≡ first_of name all) → IfSome (mounts_of paths) (λ all. Finds (sought (find_in name all)) (Ok file))
+    pub within : file.offset + file.length ≤ file.whole → IfSome (mounts_of files path) (λ all. Some file ≡ first_of name all) → IfSome (mounts_of files path) (λ all. Finds (sought (find_in name all)) (Ok file))
     within inside first = by_first file (λ found. Finds (sought found) (Ok file)) first
         (λ found. λ stands. let has = its_bytes inside found stands in (has.0, sought_is found stands has.0 has.1, has.2))
 
@@ -89,16 +88,16 @@ module _ {F : Type 0} {g : Ghosts F} (paths : Paths F g) (name : List ℕ) where
     all_of bytes part same is = is ∙ grind (arith, common_steps)
 
     -- what was read of the first file of the name, up to its end
-    pub read_of : (part rest : List ℕ) → file.offset + file.length ≤ file.whole → length part ≡ file.length → IsFilePart name 0 part (mount_at file.mount paths)
-        → IfSome (mounts_of paths) (λ all. first_of name all ≡ Some file → IfOk (sought (find_in name all)) (λ bytes. part ++ rest ≡ bytes ++ rest))
-    read_of part rest inside sized is = by (mounts_of paths) refl
+    pub read_of : (part rest : List ℕ) → file.offset + file.length ≤ file.whole → length part ≡ file.length → IsFilePart name 0 part (mount_at files file.mount path)
+        → IfSome (mounts_of files path) (λ all. first_of name all ≡ Some file → IfOk (sought (find_in name all)) (λ bytes. part ++ rest ≡ bytes ++ rest))
+    read_of part rest inside sized is = by (mounts_of files path) refl
       where
-        here : (found : Option (ℕ × FileAt)) → IsAt name file (mount_at file.mount paths) found → IfOk (sought found) (λ bytes. part ++ rest ≡ bytes ++ rest)
+        here : (found : Option (ℕ × FileAt)) → IsAt name file (mount_at files file.mount path) found → IfOk (sought found) (λ bytes. part ++ rest ≡ bytes ++ rest)
         here found stands =
             let has = its_bytes inside found stands in
-            let piece : part ≡ slice_range has.0 0 (0 + length part) = rw has.1 at (part_of stands.at part (mount_at file.mount paths) stands.has is) in
+            let piece : part ≡ slice_range has.0 0 (0 + length part) = rw has.1 at (part_of stands.at part (mount_at files file.mount path) stands.has is) in
             rw (sought_is found stands has.0 has.1) (ap (λ bytes. bytes ++ rest) (all_of has.0 part (sized ∙ has.2) piece))
 
-        by : (given : Option (List Mount)) → mounts_of paths ≡ given → IfSome given (λ all. first_of name all ≡ Some file → IfOk (sought (find_in name all)) (λ bytes. part ++ rest ≡ bytes ++ rest))
+        by : (given : Option (List Mount)) → mounts_of files path ≡ given → IfSome given (λ all. first_of name all ≡ Some file → IfOk (sought (find_in name all)) (λ bytes. part ++ rest ≡ bytes ++ rest))
         by None none = tt
         by (Some all) some = λ first. here (find_in name all) (stands file all some first)

@@ -3,7 +3,7 @@ ghost use Rattle.std.specs.Prelude.{◌≡◌, ◌+◌, ◌<◌, ◌≤◌, ◌^
 ghost use Rattle.search_paths.specs.Answers.{first_of, HasFile, IsFileRef};
 ghost use Rattle.search_paths.specs.Counts.{NoneFalls};
 ghost use Rattle.search_paths.specs.Mounts.{find_in};
-ghost use Rattle.search_paths.specs.Path.{rows_of, mounts_of, mount_at, faults_of, calls_of, SamePath};
+ghost use Rattle.search_paths.specs.Path.{rows_of, mounts_of, mount_at, counts_of, SamePath};
 ghost use Rattle.file_load.specs.Loads.{sought, IsLoadFault};
 ghost use Rattle.file_load.specs.Files.{Finds, IsSought, IsUnreadable};
 
@@ -17,18 +17,18 @@ pub(crate) fn find_whole<F: Folder>(
     paths: &mut Paths<F>,
     name: &GameName,
 ) -> Result<FileRef, LoadError>
-    ensures told { IfSome (mounts_of paths.old) (λ mounts.
+    ensures told { IfSome (mounts_of F.files paths.old) (λ mounts.
         Finds (sought (find_in name.now mounts)) result) }
-    ensures first { IfOk result (λ file. IfSome (mounts_of paths.old) (λ mounts.
+    ensures first { IfOk result (λ file. IfSome (mounts_of F.files paths.old) (λ mounts.
         first_of name.now mounts ≡ Some file)) }
-    ensures there { IfOk result (λ file. HasFile name.now file (mount_at file.mount paths.old)) }
+    ensures there { IfOk result (λ file. HasFile name.now file (mount_at F.files file.mount paths.old)) }
     ensures sized { IfOk result (IsFileRef (length (rows_of paths.old))) }
     ensures inside { IfOk result (λ file. file.offset + file.length ≤ file.whole) }
     ensures early { IfErr result IsSought }
-    ensures same { SamePath paths.old paths.new }
-    ensures faults { NoneFalls (faults_of paths.old) (faults_of paths.new) }
-    ensures calls { NoneFalls (calls_of paths.old) (calls_of paths.new) }
-    ensures fault { IfErr result (IsLoadFault (faults_of paths.old) (faults_of paths.new)) }
+    ensures same { SamePath F.files paths.old paths.new }
+    ensures faults { NoneFalls (counts_of F.folder_faults paths.old) (counts_of F.folder_faults paths.new) }
+    ensures calls { NoneFalls (counts_of F.folder_calls paths.old) (counts_of F.folder_calls paths.new) }
+    ensures fault { IfErr result (IsLoadFault (counts_of F.folder_faults paths.old) (counts_of F.folder_faults paths.new)) }
 {
     match paths.find(name) {
         Ok(Some(file)) => {
@@ -57,18 +57,18 @@ pub(crate) fn read_whole<F: Folder>(
     into: &mut [u8],
 ) -> Result<(), LoadError>
     requires mount { file.now.mount < length (rows_of paths.old) }
-    requires there { HasFile name.now file.now (mount_at file.now.mount paths.old) }
+    requires there { HasFile name.now file.now (mount_at F.files file.now.mount paths.old) }
     requires short { file.now.length < 2 ^ 62 }
     requires inside { file.now.offset + file.now.length ≤ file.now.whole }
     requires fits { file.now.length ≤ length into.old }
-    ensures filled { OnOk result (IfSome (mounts_of paths.old) (λ mounts. first_of name.now mounts ≡ Some file.now
+    ensures filled { OnOk result (IfSome (mounts_of F.files paths.old) (λ mounts. first_of name.now mounts ≡ Some file.now
         → IfOk (sought (find_in name.now mounts)) (λ bytes. into.new ≡ bytes ++ drop file.now.length into.old))) }
     ensures rest { drop file.now.length into.new ≡ drop file.now.length into.old }
     ensures late { IfErr result IsUnreadable }
-    ensures same { SamePath paths.old paths.new }
-    ensures faults { NoneFalls (faults_of paths.old) (faults_of paths.new) }
-    ensures calls { NoneFalls (calls_of paths.old) (calls_of paths.new) }
-    ensures fault { IfErr result (IsLoadFault (faults_of paths.old) (faults_of paths.new)) }
+    ensures same { SamePath F.files paths.old paths.new }
+    ensures faults { NoneFalls (counts_of F.folder_faults paths.old) (counts_of F.folder_faults paths.new) }
+    ensures calls { NoneFalls (counts_of F.folder_calls paths.old) (counts_of F.folder_calls paths.new) }
+    ensures fault { IfErr result (IsLoadFault (counts_of F.folder_faults paths.old) (counts_of F.folder_faults paths.new)) }
 {
     match paths.read(file, name, 0, &mut into[..file.length as usize]) {
         Ok(()) => Ok(()),

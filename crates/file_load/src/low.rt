@@ -3,7 +3,7 @@ ghost use Rattle.std.specs.Prelude.{◌≡◌, ◌≤◌, length, slice_get, Som
 ghost use Rattle.mem_model.specs.Laid.{Laid};
 ghost use Rattle.mem_model.specs.Hunk.{low_bytes};
 ghost use Rattle.search_paths.specs.Counts.{NoneFalls};
-ghost use Rattle.search_paths.specs.Path.{mounts_of, faults_of, calls_of, SamePath};
+ghost use Rattle.search_paths.specs.Path.{mounts_of, counts_of, SamePath};
 ghost use Rattle.file_load.specs.Loads.{load_low, Loads, IsLoadFault};
 ghost use Rattle.file_load.specs.Leaves.{LeavesLow, IsEarly};
 
@@ -25,7 +25,7 @@ pub fn load_low<M: Store, F: Folder>(
     name: &GameName,
 ) -> Result<(Place, u64), LoadError>
     // Where the folders tell their files: what is loaded, and the first refusal.
-    ensures told { IfSome (mounts_of paths.old) (λ mounts.
+    ensures told { IfSome (mounts_of F.files paths.old) (λ mounts.
         Loads (load_low mounts (M.state store.old) name.now) result (M.state store.new)) }
 
     // Whatever they tell: the store, and the block.
@@ -41,10 +41,10 @@ pub fn load_low<M: Store, F: Folder>(
     ensures zone { (M.state store.new).zone ≡ (M.state store.old).zone }
 
     // The path.
-    ensures same { SamePath paths.old paths.new }
-    ensures faults { NoneFalls (faults_of paths.old) (faults_of paths.new) }
-    ensures calls { NoneFalls (calls_of paths.old) (calls_of paths.new) }
-    ensures fault { IfErr result (IsLoadFault (faults_of paths.old) (faults_of paths.new)) }
+    ensures same { SamePath F.files paths.old paths.new }
+    ensures faults { NoneFalls (counts_of F.folder_faults paths.old) (counts_of F.folder_faults paths.new) }
+    ensures calls { NoneFalls (counts_of F.folder_calls paths.old) (counts_of F.folder_calls paths.new) }
+    ensures fault { IfErr result (IsLoadFault (counts_of F.folder_faults paths.old) (counts_of F.folder_faults paths.new)) }
 {
     let file = find_whole(paths, name)?;
     let place = store.low_alloc(file.length + 1, name.base())?;

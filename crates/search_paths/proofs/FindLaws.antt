@@ -6,15 +6,13 @@ use Rattle.std.proofs.lemmas.Bool.Decides.{nat_tests}
 use Rattle.std.proofs.lemmas.Grind.{common_steps}
 use Rattle.std.proofs.lemmas.Option.{slice_get-map}
 use Rattle.outside_io.specs.Files.{File, bytes_of}
-use Rattle.outside_io.specs.declared.outside.Folder.{Ghosts}
 use Rattle.pack_files.specs.declared.entries.Entry.{Entry}
 use Rattle.pack_files.specs.Packs.{Row, entry_of}
 use Rattle.search_paths.specs.declared.mounted.Mounted.{Mounted}
 use Rattle.search_paths.specs.declared.mounted.Mounted.TheVariants as kept
-use Rattle.search_paths.specs.declared.path.Paths.{Paths}
 use Rattle.search_paths.specs.Kept.{told_at, mount_of}
 use Rattle.search_paths.specs.Mounts.{FileAt, Mount, cut, file_in, file_within, whole_file, packed_file, folder_mount, pack_mount, pack_name, find_from, find_in}
-use Rattle.search_paths.specs.Path.{all_some, told_of, rows_of, told_mounts, mount_at, mounts_of}
+use Rattle.search_paths.specs.Path.{PathState, all_some, told_of, rows_of, told_mounts, mount_at, mounts_of}
 use Rattle.search_paths.proofs.Looking.{file_in-folder, file_in-pack}
 use Rattle.search_paths.proofs.Rows.{all_are_listed}
 
@@ -40,17 +38,17 @@ all_are_there [] = refl
 all_are_there (y ∷ ys) = ap (option_map (λ more. y ∷ more)) (all_are_there ys)
 
 -- A mount that is told is the one of its number.
-pub mount_at-told : {F : Type 0} {g : Ghosts F} (paths : Paths F g) (mounts : List Mount) (number : ℕ) → mounts_of paths ≡ Some mounts → mount_at number paths ≡ slice_get mounts number
-mount_at-told paths mounts number told =
-    ap (λ l. option_flatten (slice_get l number)) (each_is_there (told_mounts paths) mounts told) ∙ ap option_flatten (slice_get-map Some mounts number) ∙ flat (slice_get mounts number)
+pub mount_at-told : {F : Type 0} (files : F → Option (List File)) (path : PathState F) (mounts : List Mount) (number : ℕ) → mounts_of files path ≡ Some mounts → mount_at files number path ≡ slice_get mounts number
+mount_at-told files path mounts number told =
+    ap (λ l. option_flatten (slice_get l number)) (each_is_there (told_mounts files path) mounts told) ∙ ap option_flatten (slice_get-map Some mounts number) ∙ flat (slice_get mounts number)
   where
     flat : (found : Option Mount) → option_flatten (option_map Some found) ≡ found
     flat None = refl
     flat (Some mount) = refl
 
 -- The rows of the path are those of its mounts.
-pub rows-told : {F : Type 0} {g : Ghosts F} (paths : Paths F g) (mounts : List Mount) → mounts_of paths ≡ Some mounts → map (λ mount. mount.row) mounts ≡ rows_of paths
-rows-told paths mounts told = subst (λ all. IfSome all (λ ms. map (λ mount. mount.row) ms ≡ rows_of paths)) told (all_are_listed (told_of paths) paths.mounts.items)
+pub rows-told : {F : Type 0} (files : F → Option (List File)) (path : PathState F) (mounts : List Mount) → mounts_of files path ≡ Some mounts → map (λ mount. mount.row) mounts ≡ rows_of path
+rows-told files path mounts told = subst (λ all. IfSome all (λ ms. map (λ mount. mount.row) ms ≡ rows_of path)) told (all_are_listed (told_of files path) path.mounts)
 
 -- The mount that is found has the file.
 pub record IsFound (name : List ℕ) (mounts : List Mount) (number : ℕ) (file : FileAt) : Type 0 where
@@ -117,12 +115,12 @@ cut_at : (name : List ℕ) (told : List (Option (List File))) (found : Option Mo
 cut_at name told None mount file is has = cc
 cut_at name told (Some mounted) mount file is has = cut_of_mount name told mounted mount file is has
 
-pub mount_at-cut : {F : Type 0} {g : Ghosts F} (paths : Paths F g) (number : ℕ) (mount : Mount) (name : List ℕ) (file : FileAt) → mount_at number paths ≡ Some mount → file_in name mount.files ≡ Some file → IsCut file
-mount_at-cut paths number mount name file is has =
-    cut_at name (told_of paths) (slice_get paths.mounts.items number) mount file (ap option_flatten (sym (slice_get-map (mount_of (told_of paths)) paths.mounts.items number)) ∙ is) has
+pub mount_at-cut : {F : Type 0} (files : F → Option (List File)) (path : PathState F) (number : ℕ) (mount : Mount) (name : List ℕ) (file : FileAt) → mount_at files number path ≡ Some mount → file_in name mount.files ≡ Some file → IsCut file
+mount_at-cut files path number mount name file is has =
+    cut_at name (told_of files path) (slice_get path.mounts number) mount file (ap option_flatten (sym (slice_get-map (mount_of (told_of files path)) path.mounts number)) ∙ is) has
 
-pub found-cut : {F : Type 0} {g : Ghosts F} (paths : Paths F g) (mounts : List Mount) (name : List ℕ) (number : ℕ) (file : FileAt) → mounts_of paths ≡ Some mounts → IsFound name mounts number file → IsCut file
-found-cut paths mounts name number file told found = mount_at-cut paths number found.mount name file (mount_at-told paths mounts number told ∙ found.at) found.has
+pub found-cut : {F : Type 0} (files : F → Option (List File)) (path : PathState F) (mounts : List Mount) (name : List ℕ) (number : ℕ) (file : FileAt) → mounts_of files path ≡ Some mounts → IsFound name mounts number file → IsCut file
+found-cut files path mounts name number file told found = mount_at-cut files path number found.mount name file (mount_at-told files path mounts number told ∙ found.at) found.has
 
 -- Such a file has its bytes exactly where it lies inside the whole.
 length-part : (bytes : List ℕ) (offset size : ℕ) → offset + size ≤ length bytes → length (slice_range bytes offset (offset + size)) ≡ size

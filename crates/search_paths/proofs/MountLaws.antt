@@ -1,13 +1,11 @@
 -- Laws of folders that are mounted one after another.
-use Rattle.std.proofs.Common.{◌≡◌, ℕ, ◌+◌, List, [], ◌∷◌, ◌++◌, length, map, Some, Ok, Err, refl, sym, ap, ◌∙◌, arith}
+use Rattle.std.proofs.Common.{◌≡◌, ℕ, ◌+◌, List, [], ◌∷◌, ◌++◌, length, map, Option, Some, Ok, Err, refl, sym, ap, ◌∙◌, arith}
 use Rattle.std.specs.Prelude.{Result, IsOkAnd}
 use Rattle.std.proofs.lemmas.List.{map-append}
 use Rattle.outside_io.specs.Files.{File}
-use Rattle.outside_io.specs.declared.outside.Folder.{Ghosts}
-use Rattle.search_paths.specs.declared.path.Paths.{Paths}
 use Rattle.search_paths.specs.Answers.{IsMounted}
 use Rattle.search_paths.specs.Mounts.{Mount, BadPack, result_and_then, own_mounts, with_folders}
-use Rattle.search_paths.specs.Path.{all_some, told_mounts, mounts_of}
+use Rattle.search_paths.specs.Path.{PathState, all_some, told_mounts, mounts_of}
 use Rattle.search_paths.proofs.FindLaws.{each_is_there, all_are_there}
 
 -- More folders come in front of those before; a bad pack among the first ends it.
@@ -24,8 +22,8 @@ with_folders-append number (files ∷ first) rest path = by (own_mounts number f
     by (Ok ms) each = each ms ∙ ap (λ n. result_and_then (with_folders (number + 1) first (ms ++ path)) (with_folders n rest)) later
 
 -- A mounted folder's mounts stand in front of the path.
-pub mounts-mounted : {F : Type 0} {g : Ghosts F} (before after : Paths F g) (own : Result (List Mount) BadPack) (path : List Mount) → mounts_of before ≡ Some path → IsMounted own (told_mounts before) (told_mounts after) (Ok tt)
-    → IsOkAnd own (λ mounts. mounts_of after ≡ Some (mounts ++ path))
-mounts-mounted before after (Err bad) path told is = is
-mounts-mounted before after (Ok mounts) path told is =
-    ap all_some (is ∙ ap (λ l. map Some mounts ++ l) (each_is_there (told_mounts before) path told) ∙ sym (map-append Some mounts path)) ∙ all_are_there (mounts ++ path)
+pub mounts-mounted : {F : Type 0} (files : F → Option (List File)) (before after : PathState F) (own : Result (List Mount) BadPack) (path : List Mount) → mounts_of files before ≡ Some path → IsMounted own (told_mounts files before) (told_mounts files after) (Ok tt)
+    → IsOkAnd own (λ mounts. mounts_of files after ≡ Some (mounts ++ path))
+mounts-mounted files before after (Err bad) path told is = is
+mounts-mounted files before after (Ok mounts) path told is =
+    ap all_some (is ∙ ap (λ l. map Some mounts ++ l) (each_is_there (told_mounts files before) path told) ∙ sym (map-append Some mounts path)) ∙ all_are_there (mounts ++ path)

@@ -6,7 +6,7 @@ ghost use Rattle.search_paths.specs.Answers.{ref_of, first_of, HasFile, IsFileRe
 ghost use Rattle.search_paths.specs.Counts.{NoneFalls, HasFolderCause};
 ghost use Rattle.search_paths.specs.Kept.{folder_of, mount_of, IsDirectory};
 ghost use Rattle.search_paths.specs.Mounts.{file_in, packed_file};
-ghost use Rattle.search_paths.specs.Path.{all_some, rows_of, mounts_of, mount_at, faults_of, calls_of, SamePath};
+ghost use Rattle.search_paths.specs.Path.{all_some, rows_of, mounts_of, mount_at, counts_of, SamePath};
 
 use crate::answers::{FileRef, FolderFault};
 use crate::folders::{length_in, read_in};
@@ -21,13 +21,13 @@ impl<F: Folder> Paths<F> {
     /// The file of the first mount that has the name, or `None` exactly where no mount has it. A folder's fault comes only
     /// where it is counted.
     pub fn find(&mut self, name: &GameName) -> Result<Option<FileRef>, FolderFault>
-        ensures first { IfOk result (λ file. IfSome (mounts_of self.old) (λ mounts. file ≡ first_of name.now mounts)) }
+        ensures first { IfOk result (λ file. IfSome (mounts_of F.files self.old) (λ mounts. file ≡ first_of name.now mounts)) }
         ensures there { IfOk result (λ file.
-            IfSome file (λ found. HasFile name.now found (mount_at found.mount self.old))) }
+            IfSome file (λ found. HasFile name.now found (mount_at F.files found.mount self.old))) }
         ensures sized { IfOk result (λ file. IfSome file (IsFileRef (length (rows_of self.old)))) }
-        ensures same { SamePath self.old self.new }
-        ensures cause { HasFolderCause (faults_of self.old) (faults_of self.new) result }
-        ensures calls { NoneFalls (calls_of self.old) (calls_of self.new) }
+        ensures same { SamePath F.files self.old self.new }
+        ensures cause { HasFolderCause (counts_of F.folder_faults self.old) (counts_of F.folder_faults self.new) result }
+        ensures calls { NoneFalls (counts_of F.folder_calls self.old) (counts_of F.folder_calls self.new) }
     {
         find_first(&mut self.folders, &self.mounts, name.bytes())
     }
@@ -42,14 +42,14 @@ impl<F: Folder> Paths<F> {
         into: &mut [u8],
     ) -> Result<(), FolderFault>
         requires mount { file.now.mount < length (rows_of self.old) }
-        requires there { HasFile name.now file.now (mount_at file.now.mount self.old) }
+        requires there { HasFile name.now file.now (mount_at F.files file.now.mount self.old) }
         requires short { file.now.length < 2 ^ 62 }
         requires inside { file.now.offset + file.now.length ≤ file.now.whole }
         requires range { at + length into.old ≤ file.now.length }
-        ensures filled { OnOk result (IsFilePart name.now at into.new (mount_at file.now.mount self.old)) }
-        ensures same { SamePath self.old self.new }
-        ensures cause { HasFolderCause (faults_of self.old) (faults_of self.new) result }
-        ensures calls { NoneFalls (calls_of self.old) (calls_of self.new) }
+        ensures filled { OnOk result (IsFilePart name.now at into.new (mount_at F.files file.now.mount self.old)) }
+        ensures same { SamePath F.files self.old self.new }
+        ensures cause { HasFolderCause (counts_of F.folder_faults self.old) (counts_of F.folder_faults self.new) result }
+        ensures calls { NoneFalls (counts_of F.folder_calls self.old) (counts_of F.folder_calls self.new) }
     {
         let mounted = &self.mounts[file.mount as usize];
         read_from(&mut self.folders, mounted, file, name.bytes(), at, into)

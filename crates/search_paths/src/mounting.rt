@@ -6,7 +6,7 @@ ghost use Rattle.search_paths.specs.Answers.{AddsRows, IsCaused, IsMounted, IsOf
 ghost use Rattle.search_paths.specs.Kept.{row_of};
 ghost use Rattle.search_paths.specs.Mounts.{own_mounts, pack_name};
 ghost use Rattle.search_paths.specs.Own.{mount_in, IsOwn, IsFound};
-ghost use Rattle.search_paths.specs.Path.{folders_of, rows_of, told_mounts, AddsFolder};
+ghost use Rattle.search_paths.specs.Path.{rows_of, told_mounts, AddsFolder};
 
 use crate::answers::MountError;
 use crate::mounted::Mounted;
@@ -25,14 +25,14 @@ impl<F: Folder> Paths<F> {
     /// before, and the folder is kept last among the folders; where memory was wanting it may be dropped instead. A bad pack
     /// is the first of the folder; a folder's fault comes only where it is counted.
     pub fn mount(&mut self, alloc: Global, folder: F) -> Result<(), MountError>
-        requires { length (folders_of self.old) < 65536 }
+        requires { length self.old.folders < 65536 }
         ensures mounted { IfSome (F.files folder) (λ files.
-            IsMounted (own_mounts (length (folders_of self.old)) files) (told_mounts self.old) (told_mounts self.new) result) }
-        ensures rows { OnOk result (AddsRows (length (folders_of self.old)) (rows_of self.old) (rows_of self.new)) }
-        ensures same { OnErr result ((rows_of self.new ≡ rows_of self.old) × (told_mounts self.new ≡ told_mounts self.old)) }
-        ensures error { IfErr result (IsOfFolder (length (folders_of self.old))) }
-        ensures kept { (IsErrOf result MountError.OutOfMemory × (folders_of self.new ≡ folders_of self.old))
-            ⊎ AddsFolder folder self.old self.new result }
+            IsMounted (own_mounts (length self.old.folders) files) (told_mounts F.files self.old) (told_mounts F.files self.new) result) }
+        ensures rows { OnOk result (AddsRows (length self.old.folders) (rows_of self.old) (rows_of self.new)) }
+        ensures same { OnErr result ((rows_of self.new ≡ rows_of self.old) × (told_mounts F.files self.new ≡ told_mounts F.files self.old)) }
+        ensures error { IfErr result (IsOfFolder (length self.old.folders)) }
+        ensures kept { (IsErrOf result MountError.OutOfMemory × (self.new.folders ≡ self.old.folders))
+            ⊎ AddsFolder F.files F.folder_faults F.folder_calls folder self.old self.new result }
     {
         let mut folder = folder;
         let read = read_mounts(alloc, &mut folder, self.folders.len() as u32);
