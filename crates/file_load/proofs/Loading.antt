@@ -53,7 +53,7 @@ length-padded bytes size same = grind (arith, common_steps, length-replicate)
 -- What a load does to the memory, whatever the folders tell.
 module _ (block : ℕ → Answered (Result ℕ Shortage)) (written : Memory → ℕ → List ℕ → Memory) where
   -- nothing is found to load
-  pub left_early : {T : Type 0} (IsIt : T → Type 0) (m left : Memory) (e : LoadError) → IsSought e → Leaves IsIt block written m left (Err e) m
+  pub left_early : {T : Type 0} (IsIt : T → Type 0) (m left : Memory) (e : LoadError) → IsSought e → Leaves block written IsIt m left (Err e) m
   left_early IsIt m left error.NotFound is = refl
   left_early IsIt m left (error.BeyondPack end whole) is = refl
   left_early IsIt m left (error.NoRoom asked room) is = absurd is
@@ -62,7 +62,7 @@ module _ (block : ℕ → Answered (Result ℕ Shortage)) (written : Memory → 
   left_early IsIt m left error.OutOfMemory is = absurd is
 
   -- no block is given
-  pub left_refused : {T : Type 0} (IsIt : T → Type 0) (m left new : Memory) (size : ℕ) (e : RoomError) (frugal : Bool) → Gives (block size) frugal left (room_answer (Err e)) new → Leaves IsIt block written m left (Err (refused e)) new
+  pub left_refused : {T : Type 0} (IsIt : T → Type 0) (m left new : Memory) (size : ℕ) (e : RoomError) (frugal : Bool) → Gives (block size) frugal left (room_answer (Err e)) new → Leaves block written IsIt m left (Err (refused e)) new
   left_refused IsIt m left new size (room_error.NoRoom need room) frugal gives = (size, gives)
   left_refused IsIt m left new size room_error.OutOfMemory frugal gives = gives.after
 
@@ -75,7 +75,7 @@ module _ (block : ℕ → Answered (Result ℕ Shortage)) (written : Memory → 
     after = wrote ∙ ap (λ (n : Memory). written n place filled) gives.after;
   }
 
-  pub left_unread : {T : Type 0} (IsIt : T → Type 0) (m left new : Memory) (size place : ℕ) (e : LoadError) → IsUnreadable e → IsMade block written size place new → Leaves IsIt block written m left (Err e) new
+  pub left_unread : {T : Type 0} (IsIt : T → Type 0) (m left new : Memory) (size place : ℕ) (e : LoadError) → IsUnreadable e → IsMade block written size place new → Leaves block written IsIt m left (Err e) new
   left_unread IsIt m left new size place error.NotFound is stands = absurd is
   left_unread IsIt m left new size place (error.BeyondPack end whole) is stands = absurd is
   left_unread IsIt m left new size place (error.NoRoom asked room) is stands = absurd is

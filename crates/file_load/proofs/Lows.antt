@@ -17,7 +17,7 @@ use Rattle.search_paths.specs.Answers.{first_of}
 use Rattle.search_paths.specs.Mounts.{Mount, find_in}
 use Rattle.file_load.specs.declared.errors.LoadError.{LoadError}
 use Rattle.file_load.specs.Loads.{Loading, low_block, load_low, padded, sought, Loads, IsLoaded}
-use Rattle.file_load.specs.Leaves.{IsMade, LeavesLow}
+use Rattle.file_load.specs.Leaves.{IsLowMade, LeavesLow}
 use Rattle.file_load.specs.Files.{Finds, IsSought, IsUnreadable}
 use Rattle.file_load.specs.Refusals.{refused}
 use Rattle.file_load.proofs.Loading.{zeros, zone_after, left_early, left_refused, made, left_unread, early, refusal, what_is, unread, whole}
@@ -41,7 +41,7 @@ zone_written m mid new size place name bytes frugal reply gives wrote =
 module _ (m : Memory) (name : List ℕ) where
   -- nothing is found to load
   pub leaves_early : (e : LoadError) → IsSought e → LeavesLow m name (Err e) m
-  leaves_early e is = left_early (low_block m name) with_low_bytes (λ (loaded : Place × ℕ). IsMade (low_block m name) with_low_bytes loaded.1 loaded.0.0 m) m m e is
+  leaves_early e is = left_early (low_block m name) with_low_bytes (IsLowMade m name m) m m e is
 
   abbrev loaded_in : List Mount → Loading
   loaded_in all = load_low all m name
@@ -54,7 +54,7 @@ module _ (m : Memory) (name : List ℕ) where
   module _ (file : FileRef) where
     -- no block is given
     pub leaves_refused : (e : RoomError) (frugal : Bool) (new : Memory) → Gives (low_alloc m (file.length + 1) (base_of name)) frugal m (room_answer (Err e)) new → LeavesLow m name (Err (refused e)) new
-    leaves_refused e frugal new gives = left_refused (low_block m name) with_low_bytes (λ (loaded : Place × ℕ). IsMade (low_block m name) with_low_bytes loaded.1 loaded.0.0 new) m m new file.length e frugal gives
+    leaves_refused e frugal new gives = left_refused (low_block m name) with_low_bytes (IsLowMade m name new) m m new file.length e frugal gives
 
     pub refused_low : (told : Option (List Mount)) (e : RoomError) (frugal : Bool) (new : Memory) → IfSome told (λ all. Finds (sought (find_in name all)) (Ok file))
         → Gives (low_alloc m (file.length + 1) (base_of name)) frugal m (room_answer (Err e)) new → IfSome told (λ all. Loads (loaded_in all) (Err (refused e)) new)
@@ -70,7 +70,7 @@ module _ (m : Memory) (name : List ℕ) where
 
       -- the file isn't read
       pub leaves_unread : (e : LoadError) → IsUnreadable e → LeavesLow m name (Err e) new
-      leaves_unread e is = left_unread (low_block m name) with_low_bytes (λ (loaded : Place × ℕ). IsMade (low_block m name) with_low_bytes loaded.1 loaded.0.0 new) m m new file.length place.0 e is leaves_made
+      leaves_unread e is = left_unread (low_block m name) with_low_bytes (IsLowMade m name new) m m new file.length place.0 e is leaves_made
 
       pub unread_low : (told : Option (List Mount)) (e : LoadError) → IsUnreadable e → IfSome told (λ all. Finds (sought (find_in name all)) (Ok file)) → IfSome told (λ all. Loads (loaded_in all) (Err e) new)
       unfolding load_low

@@ -14,7 +14,7 @@ use Rattle.search_paths.specs.Answers.{first_of}
 use Rattle.search_paths.specs.Mounts.{Mount, find_in}
 use Rattle.file_load.specs.declared.errors.LoadError.{LoadError}
 use Rattle.file_load.specs.Loads.{Loading, temp_block, with_temp, load_temp, padded, sought, LoadsTemp, IsTempLoaded}
-use Rattle.file_load.specs.Leaves.{IsMade, LeavesTemp}
+use Rattle.file_load.specs.Leaves.{IsMade, IsTempMade, LeavesTemp}
 use Rattle.file_load.specs.Files.{Finds, IsSought, IsUnreadable}
 use Rattle.file_load.specs.Refusals.{refused}
 use Rattle.file_load.proofs.Loading.{zeros, zone_after, left_early, left_refused, made, left_unread, early, refusal, what_is, unread, whole}
@@ -40,7 +40,7 @@ module _ (m : Memory) (name : List ℕ) where
 
   -- nothing is found to load
   pub leaves_early : (e : LoadError) → IsSought e → LeavesTemp m (Err e) m
-  leaves_early e is = left_early (temp_block m) with_temp (λ (loaded : ℕ). (place : ℕ) × IsMade (temp_block m) with_temp loaded place m) m (without_temp m) e is
+  leaves_early e is = left_early (temp_block m) with_temp (IsTempMade m m) m (without_temp m) e is
 
   pub early_temp : (told : Option (List Mount)) (e : LoadError) → IsSought e → IfSome told (λ all. Finds (sought (find_in name all)) (Err e)) → IfSome told (λ all. LoadsTemp (loaded_in all) (Err e) m)
   unfolding load_temp
@@ -50,7 +50,7 @@ module _ (m : Memory) (name : List ℕ) where
   module _ (file : FileRef) where
     -- no block is given
     pub leaves_refused : (e : RoomError) (frugal : Bool) (new : Memory) → Gives (temp_alloc m (file.length + 1)) frugal (without_temp m) (room_answer (Err e)) new → LeavesTemp m (Err (refused e)) new
-    leaves_refused e frugal new gives = left_refused (temp_block m) with_temp (λ (loaded : ℕ). (place : ℕ) × IsMade (temp_block m) with_temp loaded place new) m (without_temp m) new file.length e frugal gives
+    leaves_refused e frugal new gives = left_refused (temp_block m) with_temp (IsTempMade m new) m (without_temp m) new file.length e frugal gives
 
     pub refused_temp : (told : Option (List Mount)) (e : RoomError) (frugal : Bool) (new : Memory) → IfSome told (λ all. Finds (sought (find_in name all)) (Ok file))
         → Gives (temp_alloc m (file.length + 1)) frugal (without_temp m) (room_answer (Err e)) new → IfSome told (λ all. LoadsTemp (loaded_in all) (Err (refused e)) new)
@@ -70,7 +70,7 @@ module _ (m : Memory) (name : List ℕ) where
 
       -- the file isn't read
       pub leaves_unread : (e : LoadError) → IsUnreadable e → LeavesTemp m (Err e) new
-      leaves_unread e is = left_unread (temp_block m) with_temp (λ (loaded : ℕ). (place : ℕ) × IsMade (temp_block m) with_temp loaded place new) m (without_temp m) new file.length place e is stands
+      leaves_unread e is = left_unread (temp_block m) with_temp (IsTempMade m new) m (without_temp m) new file.length place e is stands
 
       pub unread_temp : (told : Option (List Mount)) (e : LoadError) → IsUnreadable e → IfSome told (λ all. Finds (sought (find_in name all)) (Ok file)) → IfSome told (λ all. LoadsTemp (loaded_in all) (Err e) new)
       unfolding load_temp

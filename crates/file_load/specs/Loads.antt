@@ -54,7 +54,8 @@ placed written bytes m (Ok place) = record { load = At place bytes; after = writ
 placed written bytes m (Err shortage) = record { load = NoRoom shortage; after = m }
 
 -- a block for the bytes is asked for
-abbrev pub loading : (ℕ → Answered (Result ℕ Shortage)) → (Memory → ℕ → List ℕ → Memory) → Memory → Result (List ℕ) Load → Loading
+abbrev pub loading : (ℕ → Answered (Result ℕ Shortage)) → (Memory → ℕ → List ℕ → Memory) → Memory → Result (List ℕ) Load
+    → Loading
 loading block written m (Ok bytes) = placed written bytes (block (length bytes)).after (block (length bytes)).answer
 loading block written m (Err refusal) = record { load = refusal; after = m }
 
@@ -97,11 +98,13 @@ pub record IsRefused (given : Loading) (answer : Load) (new : Memory) : Type 0 w
   pub after : new ≡ given.after
 
 -- How a call loaded, or was refused, as the definition says. A fault at the search and a want of memory end it before that.
-abbrev pub Tells : {T : Type 0} → (T → Type 0) → (Memory → ℕ → List ℕ → Memory) → Loading → Result T LoadError → Memory → Type 0
+abbrev pub Tells : {T : Type 0} → (T → Type 0) → (Memory → ℕ → List ℕ → Memory) → Loading → Result T LoadError → Memory
+    → Type 0
 Tells IsIt written given (Ok loaded) new = IsIt loaded
 Tells IsIt written given (Err error.NotFound) new = IsRefused given Missing new
 Tells IsIt written given (Err (error.BeyondPack end whole)) new = IsRefused given (Beyond end whole) new
-Tells IsIt written given (Err (error.NoRoom asked room)) new = IsRefused given (NoRoom (record { asked = asked; room = room })) new
+Tells IsIt written given (Err (error.NoRoom asked room)) new =
+    IsRefused given (NoRoom (record { asked = asked; room = room })) new
 Tells IsIt written given (Err (error.FolderFault folder stage.Find)) new = Unit {0}
 Tells IsIt written given (Err (error.FolderFault folder stage.Read)) new = IsUnread given written new
 Tells IsIt written given (Err error.OutOfMemory) new = Unit {0}

@@ -11,7 +11,7 @@ NoneFalls before after = (folder : ℕ) → slice_index before folder ≤ slice_
 abbrev pub RoseAt : ℕ → List ℕ → List ℕ → Type 0
 RoseAt folder before after = Rose (slice_index before folder) (slice_index after folder)
 
--- No folder's count of faults falls. Where the call failed, there is a folder of the number that is told, and its count rose.
+-- No folder's count of faults falls. Where the call failed, the number that is told is a folder's, and its count rose.
 pub record HasFolderCause {T : Type 0} (before after : List ℕ) (result : Result T FolderFault) : Type 0 where
   pub none_falls : NoneFalls before after
   pub failed : IfErr result (λ fault. (fault.folder < length before) × RoseAt fault.folder before after)

@@ -25,6 +25,7 @@ IsOwn number told (kept.Pack folder pack directory) =
 -- of memory say nothing of it.
 abbrev pub IsFound : ℕ → ℕ → Option (Result PackTable PackFault) → Result (Option PackTable) MountError → Type 0
 IsFound number pack told (Ok found) = told ≡ option_map Ok found
-IsFound number pack told (Err (error.BadPack folder bad fault)) = (folder ≡ number) × (bad ≡ pack) × (told ≡ Some (Err fault))
+IsFound number pack told (Err (error.BadPack folder bad fault)) =
+    (folder ≡ number) × (bad ≡ pack) × (told ≡ Some (Err fault))
 IsFound number pack told (Err (error.FolderFault folder)) = ⊤
 IsFound number pack told (Err error.OutOfMemory) = ⊤

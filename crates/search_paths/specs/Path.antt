@@ -57,8 +57,8 @@ pub record SamePath {F : Type 0} (files : F → Option (List File)) (before afte
   pub told : told_of files after ≡ told_of files before
 
 -- A folder is kept last: this is what it is now. It tells what it told, its counts don't fall, and a fault has its cause.
-pub record AddsFolder {F : Type 0} (files : F → Option (List File)) (faults calls : F → ℕ) (folder : F) (before after : PathState F)
-    (result : Result (Unit {0}) MountError) : Type 0 where
+pub record AddsFolder {F : Type 0} (files : F → Option (List File)) (faults calls : F → ℕ) (folder : F)
+    (before after : PathState F) (result : Result (Unit {0}) MountError) : Type 0 where
   pub now : F
   pub last : after.folders ≡ before.folders ++ now ∷ []
   pub told : files now ≡ files folder

@@ -21,7 +21,8 @@ impl<F: Folder> Paths<F> {
     /// The file of the first mount that has the name, or `None` exactly where no mount has it. A folder's fault comes only
     /// where it is counted.
     pub fn find(&mut self, name: &GameName) -> Result<Option<FileRef>, FolderFault>
-        ensures first { IfOk result (λ file. IfSome (mounts_of F.files self.old) (λ mounts. file ≡ first_of name.now mounts)) }
+        ensures first { IfOk result (λ file.
+            IfSome (mounts_of F.files self.old) (λ mounts. file ≡ first_of name.now mounts)) }
         ensures there { IfOk result (λ file.
             IfSome file (λ found. HasFile name.now found (mount_at F.files found.mount self.old))) }
         ensures sized { IfOk result (λ file. IfSome file (IsFileRef (length (rows_of self.old)))) }
@@ -67,8 +68,8 @@ fn find_first<F: Folder>(
     requires read { All (IsDirectory (map F.files folders.old)) mounts.now }
     ensures first { IfOk result (λ file. IfSome (all_some (map (mount_of (map F.files folders.old)) mounts.now)) (λ all.
         file ≡ first_of name.now all)) }
-    ensures there { IfOk result (λ file. IfSome file (λ found.
-        HasFile name.now found (option_flatten (slice_get (map (mount_of (map F.files folders.old)) mounts.now) found.mount)))) }
+    ensures there { IfOk result (λ file. IfSome file (λ found. HasFile name.now found
+        (option_flatten (slice_get (map (mount_of (map F.files folders.old)) mounts.now) found.mount)))) }
     ensures sized { IfOk result (λ file. IfSome file (IsFileRef (length mounts.now))) }
     ensures told { map F.files folders.new ≡ map F.files folders.old }
     ensures cause { HasFolderCause (map F.folder_faults folders.old) (map F.folder_faults folders.new) result }

@@ -27,9 +27,11 @@ impl<F: Folder> Paths<F> {
     pub fn mount(&mut self, alloc: Global, folder: F) -> Result<(), MountError>
         requires { length self.old.folders < 65536 }
         ensures mounted { IfSome (F.files folder) (λ files.
-            IsMounted (own_mounts (length self.old.folders) files) (told_mounts F.files self.old) (told_mounts F.files self.new) result) }
+            IsMounted (own_mounts (length self.old.folders) files) (told_mounts F.files self.old) (told_mounts F.files self.new)
+            result) }
         ensures rows { OnOk result (AddsRows (length self.old.folders) (rows_of self.old) (rows_of self.new)) }
-        ensures same { OnErr result ((rows_of self.new ≡ rows_of self.old) × (told_mounts F.files self.new ≡ told_mounts F.files self.old)) }
+        ensures same { OnErr result ((rows_of self.new ≡ rows_of self.old)
+            × (told_mounts F.files self.new ≡ told_mounts F.files self.old)) }
         ensures error { IfErr result (IsOfFolder (length self.old.folders)) }
         ensures kept { (IsErrOf result MountError.OutOfMemory × (self.new.folders ≡ self.old.folders))
             ⊎ AddsFolder F.files F.folder_faults F.folder_calls folder self.old self.new result }

@@ -1,4 +1,3 @@
-use Rattle.std.proofs.Common.{rules, map, ap, subst, sym, ◌∙◌}
 use Rattle.search_paths.proofs.path.Paths.find.Goals as goal
 
 pub returns-clause-first : goal.returns-clause-first

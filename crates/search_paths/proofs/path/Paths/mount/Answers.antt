@@ -45,10 +45,10 @@ invariant_of-self-in-Ok-read g c =
       most = omega (arith, some, size);
       few = omega (arith, few, size);
       inside = front_or_before c.put_in_front.result (λ mounted. folder_of mounted < length c.push.new.self.items) c.put_in_front.new.mounts.items own mounts front same
-      (folders_own c.len.result (length c.push.new.self.items) last own (omega (arith, number, size)) c.in-Ok-read.ensures.own)
-      (folders_before (length held.items) (length c.push.new.self.items) mounts (omega (arith, size)) c.self.invariant.inside);
+          (folders_own c.len.result (length c.push.new.self.items) last own (omega (arith, number, size)) c.in-Ok-read.ensures.own)
+          (folders_before (length held.items) (length c.push.new.self.items) mounts (omega (arith, size)) c.self.invariant.inside);
       read = rw now (front_or_before c.put_in_front.result (IsDirectory (told ++ last ∷ [])) c.put_in_front.new.mounts.items own mounts front same
-      (directories_own told last c.len.result own (omega (arith, number, length-map held.items files)) c.in-Ok-read.ensures.own) (directories_before told last mounts before c.self.invariant.read));
+          (directories_own told last c.len.result own (omega (arith, number, length-map held.items files)) c.in-Ok-read.ensures.own) (directories_before told last mounts before c.self.invariant.read));
     }
 
 pub returns-in-Ok-read-clause-mounted : goal.returns-in-Ok-read-clause-mounted

@@ -1,4 +1,4 @@
-use Rattle.std.proofs.Common.{◌≡◌, ◌<◌, length, map, subst, sym, arith}
+use Rattle.std.proofs.Common.{◌<◌, length, map, subst, sym, arith}
 use Rattle.std.specs.Prelude.{OnOk}
 use Rattle.std.proofs.lemmas.List.{length-map}
 use Rattle.search_paths.specs.Answers.{IsFilePart}
