@@ -1,16 +1,19 @@
 -- What the outcome of a run says of its status.
-use Rattle.std.proofs.Common.{◌≡◌, ◌≤◌, ◌+◌, ℕ, List, ◌++◌, length, map, Option, Some, None, Result, Ok, Err, IfOk, IsSomeAnd, refl, ap, ◌∙◌, arith, subst, length-append}
+use Rattle.std.proofs.Common.{◌≡◌, ◌≤◌, ◌+◌, ℕ, List, ◌++◌, length, map, Option, Some, None, Result, Ok, Err, inl, inr, drop, IfOk, IfSome, IsErr, IsSomeAnd, refl, ap, ◌∙◌, arith, subst, length-append}
 use Rattle.std.specs.Prelude.{◌↔◌}
 use Rattle.outside_io.specs.Causes.{Rose}
 use Rattle.outside_io.specs.Files.{File}
+use Rattle.pack_files.specs.declared.faults.PackFault.{PackFault}
+use Rattle.search_paths.specs.Mounts.{Mount, mounted}
+use Rattle.search_paths.specs.Path.{all_some}
 use Rattle.outside_io.specs.Streams.{Took}
 use Rattle.command_line.specs.CommandLine.{IsAsked}
 use Rattle.command_line.specs.declared.words.Request.{Request}
 use Rattle.command_line.proofs.Lines.{one_request, asked_has_no_bad}
 use Rattle.console_core.specs.Reading.{limit}
-use Rattle.console_core.specs.Ends.{Asks, AsksTooMuch, fault_of, EndsFor, HasOutcome, IsComplete}
+use Rattle.console_core.specs.Ends.{Asks, AsksTooMuch, fault_of, Ends, EndsFor, OnPath, HasOutcome, IsComplete}
 use Rattle.console_core.specs.declared.status.Status.{Status}
-use Rattle.console_core.specs.declared.status.Status.TheVariants.{Done, Usage, OutOfMemory, TooSmall, ScriptFault, FolderFault, WriteFault, ScriptTooLong}
+use Rattle.console_core.specs.declared.status.Status.TheVariants.{Done, Usage, OutOfMemory, TooSmall, ScriptFault, BadPack, FolderFault, WriteFault, ScriptTooLong}
 
 some_length : (a b : List ℕ) → Some a ≡ Some b → length a ≡ length b
 some_length a b e = let same : a ≡ b = cc in ap length same
@@ -25,6 +28,11 @@ not_past taken None now took size short = short
 not_past taken (Some before) None took size short = absurd (cc)
 not_past taken (Some before) (Some after) took size short = omega (arith, size, took_length taken before after took, short)
 
+-- what is so of a run on a path
+of_path : {run : Option (List Mount) → Type 0} (told : Option (List (List File))) → OnPath told run → (mounts : Option (List Mount)) × run mounts
+of_path None is = (None, is)
+of_path (Some folders) is = (Some is.0, is.2)
+
 module _ {F : Type 0} (words : List (List ℕ)) (files_of : F → Option (List File)) (faults_of : F → ℕ) (folders : List F)
     (rest_before rest_now start now : Option (List ℕ)) (script_before script_now sink_before sink_now : ℕ) where
   abbrev HasThis : Status F → Type 0
@@ -33,24 +41,41 @@ module _ {F : Type 0} (words : List (List ℕ)) (files_of : F → Option (List F
   abbrev small_status : Status F
   small_status = TooSmall
 
-  module _ (request : Request) (asks : IsAsked words 1 request) where
+  -- a bad pack is the first of the folders
+  bad_path : (folder pack : ℕ) (fault : PackFault) (told : Option (List (List File))) (other : Request) → Ends {F = F} told other rest_before rest_now start now (BadPack folder pack fault) → IfSome told (λ folders. IsErr (mounted folders))
+  bad_path folder pack fault None other ends = tt
+  bad_path folder pack fault (Some told) other (inl opening) = rw opening.0 refl
+  bad_path folder pack fault (Some told) other (inr ends) = absurd ends.2
+
+  module _ (request : Request) (asks : IsAsked words 8 request) where
     no_usage : (word : ℕ) (asked : Result Request ℕ) → Asks words asked → Some word ≡ fault_of asked → ⊥
     no_usage word (Ok other) is e = absurd (cc)
-    no_usage word (Err bad) is e = asked_has_no_bad words 1 request bad asks is
+    no_usage word (Err bad) is e = asked_has_no_bad words 8 request bad asks is
 
     no_small : (asked : Result Request ℕ) → Asks words asked → None ≡ fault_of asked → IfOk asked (λ other. (small_status ≡ small_status) ↔ AsksTooMuch other) → (AsksTooMuch request → ⊥) → ⊥
-    no_small (Ok other) is e small fits = fits (subst AsksTooMuch (one_request words 1 other request is asks) (small.0 refl))
+    no_small (Ok other) is e small fits = fits (subst AsksTooMuch (one_request words 8 other request is asks) (small.0 refl))
     no_small (Err bad) is e small fits = absurd (cc)
 
     no_past : (asked : Result Request ℕ) → None ≡ fault_of asked → EndsFor {F = F} asked (map files_of folders) rest_before rest_now start now ScriptTooLong → IsSomeAnd rest_before (λ bytes. length bytes ≤ 1048576) → ⊥
-    no_past (Ok other) e ends short = not_past ends.taken rest_before rest_now ends.took ends.size short
+    no_past (Ok other) e (inl opening) short = opening.0
+    no_past (Ok other) e (inr ends) short =
+        let past = of_path (all_some (drop other.first (map files_of folders))) ends in
+        not_past past.1.taken rest_before rest_now past.1.took past.1.size short
     no_past (Err bad) e ends short = absurd (cc)
 
+    no_path : (folder pack : ℕ) (fault : PackFault) (asked : Result Request ℕ) → Asks words asked → None ≡ fault_of asked → EndsFor {F = F} asked (map files_of folders) rest_before rest_now start now (BadPack folder pack fault)
+        → IfSome (all_some (drop request.first (map files_of folders))) (λ told. IsErr (mounted told))
+    no_path folder pack fault (Ok other) is e ends =
+        subst (λ (r : Request). IfSome (all_some (drop r.first (map files_of folders))) (λ told. IsErr (mounted told))) (one_request words 8 other request is asks)
+        (bad_path folder pack fault (all_some (drop other.first (map files_of folders))) other ends)
+    no_path folder pack fault (Err bad) is e ends = absurd (cc)
+
     -- lawful words and a short script come to their end where no count of the script or the sink rises
-    pub completes : (status : Status F) → HasThis status → (AsksTooMuch request → ⊥) → IsSomeAnd rest_before (λ bytes. length bytes ≤ 1048576) → (Rose script_before script_now → ⊥) → (Rose sink_before sink_now → ⊥) → IsComplete status
+    pub completes : (status : Status F) → HasThis status → (AsksTooMuch request → ⊥) → IsSomeAnd rest_before (λ bytes. length bytes ≤ 1048576) → (Rose script_before script_now → ⊥) → (Rose sink_before sink_now → ⊥) → IsComplete (all_some (drop request.first (map files_of folders))) status
     completes Done o fits short script sink = tt
     completes OutOfMemory o fits short script sink = tt
     completes (FolderFault word folder) o fits short script sink = tt
+    completes (BadPack folder pack fault) o fits short script sink = no_path folder pack fault o.asked o.is o.usage o.ends
     completes (Usage word) o fits short script sink = no_usage word o.asked o.is o.usage
     completes TooSmall o fits short script sink = no_small o.asked o.is o.usage o.too_small fits
     completes ScriptFault o fits short script sink = script o.cause

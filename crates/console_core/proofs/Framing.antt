@@ -4,7 +4,7 @@ use Rattle.std.proofs.Common.{◌≡◌, ℕ, ◌<◌, List, [], ◌∷◌, ◌+
 use Rattle.std.specs.Prelude.{codes}
 use Rattle.std.proofs.lemmas.List.{append-nil}
 use Rattle.std.proofs.lemmas.Bool.{eq-eqb, ne_eqb}
-use Rattle.outside_io.specs.Files.{File}
+use Rattle.search_paths.specs.Mounts.{Mount}
 use Rattle.outside_io.specs.Streams.{Adds, AddsFront}
 use Rattle.outside_io.proofs.Puts.{adds_none, adds_both}
 use Rattle.console_core.specs.States.{State, Reply, CutsOff, IsDone}
@@ -14,20 +14,20 @@ use Rattle.console_core.specs.declared.ends.Fault.{Fault}
 use Rattle.console_core.specs.declared.ends.Fault.TheVariants as fault
 use Rattle.console_core.specs.declared.ends.Next.{Next}
 
-pub frame_empty : (through : Bool) (files : List File) (n : ℕ) (s : State) → length s.buffer ≡ 0 → frame through files n s ≡ stopped s [] false
+pub frame_empty : (through : Bool) (mounts : List Mount) (n : ℕ) (s : State) → length s.buffer ≡ 0 → frame through mounts n s ≡ stopped s [] false
 unfolding frame
-frame_empty through files zero s none = rw (eq-eqb (length s.buffer) 0 none) refl
-frame_empty through files (suc n) s none = rw (eq-eqb (length s.buffer) 0 none) refl
+frame_empty through mounts zero s none = rw (eq-eqb (length s.buffer) 0 none) refl
+frame_empty through mounts (suc n) s none = rw (eq-eqb (length s.buffer) 0 none) refl
 
-pub frame_away : (through : Bool) (files : List File) (n : ℕ) (s : State) → n ≡ 0 → 0 < length s.buffer → frame through files n s ≡ stopped (record s { buffer = [] }) (plain (codes "runaway\n") ∷ []) false
+pub frame_away : (through : Bool) (mounts : List Mount) (n : ℕ) (s : State) → n ≡ 0 → 0 < length s.buffer → frame through mounts n s ≡ stopped (record s { buffer = [] }) (plain (codes "runaway\n") ∷ []) false
 unfolding frame
-frame_away through files zero s is some = rw (ne_eqb (length s.buffer) 0 (λ e. omega arith)) refl
-frame_away through files (suc n) s is some = absurd (omega arith)
+frame_away through mounts zero s is some = rw (ne_eqb (length s.buffer) 0 (λ e. omega arith)) refl
+frame_away through mounts (suc n) s is some = absurd (omega arith)
 
-pub frame_more : (through : Bool) (files : List File) (n k : ℕ) (s : State) → n ≡ suc k → 0 < length s.buffer →
-    frame through files n s ≡ continued (command files s).reply (command files s).after (ending through (command files s).next) (λ after. frame through files k after)
+pub frame_more : (through : Bool) (mounts : List Mount) (n k : ℕ) (s : State) → n ≡ suc k → 0 < length s.buffer →
+    frame through mounts n s ≡ continued (command mounts s).reply (command mounts s).after (ending through (command mounts s).next) (λ after. frame through mounts k after)
 unfolding frame
-frame_more through files n k s is some = ap (λ (m : ℕ). frame through files m s) is ∙ rw (ne_eqb (length s.buffer) 0 (λ e. omega arith)) refl
+frame_more through mounts n k s is some = ap (λ (m : ℕ). frame through mounts m s) is ∙ rw (ne_eqb (length s.buffer) 0 (λ e. omega arith)) refl
 
 pub texts-append : (xs ys : List Reply) → texts (xs ++ ys) ≡ texts xs ++ texts ys
 texts-append [] ys = refl
@@ -86,35 +86,35 @@ unfolding later_of
 continued_replies reply s None rest = refl
 continued_replies reply s (Some quit) rest = refl
 
-module _ (through : Bool) (files : List File) (n k : ℕ) (whole : Ran) (s new : State) (next : Next) (start mid now : Option (List ℕ)) (is : n ≡ suc k) (some : 0 < length s.buffer)
-    (so_far : RunSoFar whole (frame through files n s) start mid) where
+module _ (through : Bool) (mounts : List Mount) (n k : ℕ) (whole : Ran) (s new : State) (next : Next) (start mid now : Option (List ℕ)) (is : n ≡ suc k) (some : 0 < length s.buffer)
+    (so_far : RunSoFar whole (frame through mounts n s) start mid) where
   -- the frame goes on
-  pub step_more : IsDone (command files s) next new mid now → None ≡ ending through next → RunSoFar whole (frame through files k new) start now
+  pub step_more : IsDone (command mounts s) next new mid now → None ≡ ending through next → RunSoFar whole (frame through mounts k new) start now
   step_more done goes =
-      let did = command files s in
-      let left_is : frame through files n s ≡ and_then did.reply (frame through files k new) =
-      frame_more through files n k s is some
-      ∙ ap (λ (o : Option Bool). continued did.reply did.after o (λ after. frame through files k after)) (ap (ending through) done.next ∙ sym goes)
-      ∙ ap (λ (after : State). and_then did.reply (frame through files k after)) (sym done.after) in
-      so_far_step whole (frame through files n s) (frame through files k new) did.reply start mid now left_is so_far done.put
+      let did = command mounts s in
+      let left_is : frame through mounts n s ≡ and_then did.reply (frame through mounts k new) =
+      frame_more through mounts n k s is some
+      ∙ ap (λ (o : Option Bool). continued did.reply did.after o (λ after. frame through mounts k after)) (ap (ending through) done.next ∙ sym goes)
+      ∙ ap (λ (after : State). and_then did.reply (frame through mounts k after)) (sym done.after) in
+      so_far_step whole (frame through mounts n s) (frame through mounts k new) did.reply start mid now left_is so_far done.put
 
   -- the frame ends behind this command
-  pub step_last : (quit : Bool) → IsDone (command files s) next new mid now → Some quit ≡ ending through next → RunSoFar whole (stopped new [] quit) start now
+  pub step_last : (quit : Bool) → IsDone (command mounts s) next new mid now → Some quit ≡ ending through next → RunSoFar whole (stopped new [] quit) start now
   step_last quit done ends =
-      let did = command files s in
-      let left_is : frame through files n s ≡ and_then did.reply (stopped new [] quit) =
-      frame_more through files n k s is some
-      ∙ ap (λ (o : Option Bool). continued did.reply did.after o (λ after. frame through files k after)) (ap (ending through) done.next ∙ sym ends)
+      let did = command mounts s in
+      let left_is : frame through mounts n s ≡ and_then did.reply (stopped new [] quit) =
+      frame_more through mounts n k s is some
+      ∙ ap (λ (o : Option Bool). continued did.reply did.after o (λ after. frame through mounts k after)) (ap (ending through) done.next ∙ sym ends)
       ∙ ap (λ (after : State). stopped after (did.reply ∷ []) quit) (sym done.after) in
-      so_far_step whole (frame through files n s) (stopped new [] quit) did.reply start mid now left_is so_far done.put
+      so_far_step whole (frame through mounts n s) (stopped new [] quit) did.reply start mid now left_is so_far done.put
 
-  next_replies : (frame through files n s).replies ≡ (command files s).reply ∷ later_of (ending through (command files s).next) (frame through files k (command files s).after)
+  next_replies : (frame through mounts n s).replies ≡ (command mounts s).reply ∷ later_of (ending through (command mounts s).next) (frame through mounts k (command mounts s).after)
   next_replies =
-      let did = command files s in
-      ap (λ (r : Ran). r.replies) (frame_more through files n k s is some) ∙ continued_replies did.reply did.after (ending through did.next) (λ after. frame through files k after)
+      let did = command mounts s in
+      ap (λ (r : Ran). r.replies) (frame_more through mounts n k s is some) ∙ continued_replies did.reply did.after (ending through did.next) (λ after. frame through mounts k after)
 
-  pub step_cut : (error : Fault) → CutsOff (command files s).reply error mid now → IsCutShort whole.replies error start now
-  step_cut error cut = so_far_cut whole (frame through files n s) (command files s).reply _ error start mid now next_replies so_far cut
+  pub step_cut : (error : Fault) → CutsOff (command mounts s).reply error mid now → IsCutShort whole.replies error start now
+  step_cut error cut = so_far_cut whole (frame through mounts n s) (command mounts s).reply _ error start mid now next_replies so_far cut
 
 -- the last reply, which is no command's
 pub last_runs : (whole left : Ran) (s : State) (text : List ℕ) (end : Bool) (result : Result Bool Fault) (start mid now : Option (List ℕ)) → left ≡ stopped s (plain text ∷ []) end

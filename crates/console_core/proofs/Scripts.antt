@@ -4,7 +4,7 @@ use Rattle.std.proofs.Common.{inl, inr, Some, None, option_map, ◌≡◌, ◌�
 use Rattle.std.proofs.lemmas.List.{append-nil, take_more, take-append-drop, take_all}
 use Rattle.std.proofs.lemmas.Bool.{eq-eqb, ne_eqb}
 use Rattle.std.proofs.lemmas.Bool.Decides.{eqb_tells}
-use Rattle.outside_io.specs.Files.{File}
+use Rattle.search_paths.specs.Mounts.{Mount}
 use Rattle.outside_io.specs.Streams.{Adds, Took}
 use Rattle.outside_io.proofs.Puts.{adds_none, adds_both}
 use Rattle.console_core.specs.States.{State, Reply}
@@ -68,12 +68,12 @@ go_on_assoc : (quit : Bool) (first next : Ran) (rest : State → Ran) → first.
 go_on_assoc true first next rest is = sym (ap (λ (b : Bool). go_on b first (rest first.after)) is)
 go_on_assoc false first next rest is = joined_assoc next.quit first next (rest next.after)
 
-pub run_append : (files : List File) (s : State) (first second : List (List ℕ)) → run_lines files s (first ++ second) ≡ followed (run_lines files s first) (λ after. run_lines files after second)
-run_append files s [] second = refl
-run_append files s (text ∷ texts) second =
-    let ran = line files s text in
-    ap (λ (next : Ran). go_on ran.quit ran next) (run_append files ran.after texts second)
-    ∙ go_on_assoc ran.quit ran (run_lines files ran.after texts) (λ after. run_lines files after second) refl
+pub run_append : (mounts : List Mount) (s : State) (first second : List (List ℕ)) → run_lines mounts s (first ++ second) ≡ followed (run_lines mounts s first) (λ after. run_lines mounts after second)
+run_append mounts s [] second = refl
+run_append mounts s (text ∷ texts) second =
+    let ran = line mounts s text in
+    ap (λ (next : Ran). go_on ran.quit ran next) (run_append mounts ran.after texts second)
+    ∙ go_on_assoc ran.quit ran (run_lines mounts ran.after texts) (λ after. run_lines mounts after second) refl
 
 -- a run without `quit`, and then another
 pub both_run : (first : Ran) (rest : State → Ran) (result : Result Bool Fault) (s new : State) (start mid now : Option (List ℕ)) → IsRun first false s start mid → Runs (rest s) result new mid now → Runs (followed first rest) result new start now
@@ -126,11 +126,11 @@ lone : (text : List ℕ) → HasNoNewline text → lines_of text ≡ record { wh
 lone [] none = refl
 lone (byte ∷ bytes) none = ap (λ (t : Bool). one_byte t byte (lines_of bytes)) none.0 ∙ ap (λ (lines : Lines). one_byte false byte lines) (lone bytes none.1)
 
-pub start_run : (files : List File) (s : State) (pending : List ℕ) (start : Option (List ℕ)) → HasNoNewline pending → IsRun (run_lines files s (lines_of (pending ++ [])).whole) false s start start
-start_run files s pending start no_newline =
+pub start_run : (mounts : List Mount) (s : State) (pending : List ℕ) (start : Option (List ℕ)) → HasNoNewline pending → IsRun (run_lines mounts s (lines_of (pending ++ [])).whole) false s start start
+start_run mounts s pending start no_newline =
     let is = lone pending no_newline in
     let none : (lines_of (pending ++ [])).whole ≡ [] = ap (λ (t : List ℕ). (lines_of t).whole) (append-nil pending) ∙ ap (λ (l : Lines). l.whole) is in
-    subst (λ ls. IsRun (run_lines files s ls) false s start start) (sym none) (record { quit = refl; after = refl; put = adds_none start })
+    subst (λ ls. IsRun (run_lines mounts s ls) false s start start) (sym none) (record { quit = refl; after = refl; put = adds_none start })
 
 pub start_rest : (pending : List ℕ) → length pending ≤ 8192 → HasNoNewline pending → pending ≡ take 8192 (lines_of (pending ++ [])).rest
 start_rest pending short no_newline =
@@ -150,42 +150,42 @@ rest_more taken pending byte is = elim (eqb_tells byte 10) [
   | inr off ↦ rw off.0 (ap (λ (p : List ℕ). take 8192 (p ++ byte ∷ [])) is ∙ take_front 8192 (lines_of taken).rest (byte ∷ []) ∙ sym (ap (λ (l : Lines). take 8192 l.rest) (lines_more taken byte off.1)))
 ]
 
-module _ (files : List File) (first s new : State) (taken : List ℕ) (byte : ℕ) (start mid now : Option (List ℕ)) (so_far : IsRun (run_lines files first (lines_of taken).whole) false s start mid) (pending : List ℕ) (pending_is : pending ≡ take 8192 (lines_of taken).rest) where
+module _ (mounts : List Mount) (first s new : State) (taken : List ℕ) (byte : ℕ) (start mid now : Option (List ℕ)) (so_far : IsRun (run_lines mounts first (lines_of taken).whole) false s start mid) (pending : List ℕ) (pending_is : pending ≡ take 8192 (lines_of taken).rest) where
   -- a byte more was taken, and its line was run where it ends one
-  pub byte_runs : (result : Result Bool Fault) → Runs (byte_run files s pending byte) result new mid now → Runs (run_lines files first (lines_of (taken ++ byte ∷ [])).whole) result new start now
+  pub byte_runs : (result : Result Bool Fault) → Runs (byte_run mounts s pending byte) result new mid now → Runs (run_lines mounts first (lines_of (taken ++ byte ∷ [])).whole) result new start now
   byte_runs result runs = elim (eqb_tells byte 10) [
     | inl at ↦
-        let line_runs : Runs (line files s pending) result new mid now = rw at.0 at runs in
-        let kept : Runs (line files s (take 8192 (lines_of taken).rest)) result new mid now = subst (λ p. Runs (line files s p) result new mid now) pending_is line_runs in
-        let here : Runs (line files s (lines_of taken).rest) result new mid now = subst (λ r. Runs r result new mid now) (line_short files s (lines_of taken).rest) kept in
-        let ran = line files s (lines_of taken).rest in
+        let line_runs : Runs (line mounts s pending) result new mid now = rw at.0 at runs in
+        let kept : Runs (line mounts s (take 8192 (lines_of taken).rest)) result new mid now = subst (λ p. Runs (line mounts s p) result new mid now) pending_is line_runs in
+        let here : Runs (line mounts s (lines_of taken).rest) result new mid now = subst (λ r. Runs r result new mid now) (line_short mounts s (lines_of taken).rest) kept in
+        let ran = line mounts s (lines_of taken).rest in
         let alone : Runs (followed ran (λ after. stopped after [] false)) result new mid now = subst (λ r. Runs r result new mid now) (sym (nothing_more ran.quit ran refl)) here in
-        subst (λ ls. Runs (run_lines files first ls) result new start now) (sym (ap (λ (l : Lines). l.whole) (lines_newline taken byte at.1)))
-        (subst (λ r. Runs r result new start now) (sym (run_append files first (lines_of taken).whole ((lines_of taken).rest ∷ [])))
-        (both_run (run_lines files first (lines_of taken).whole) (λ after. run_lines files after ((lines_of taken).rest ∷ [])) result s new start mid now so_far alone))
+        subst (λ ls. Runs (run_lines mounts first ls) result new start now) (sym (ap (λ (l : Lines). l.whole) (lines_newline taken byte at.1)))
+        (subst (λ r. Runs r result new start now) (sym (run_append mounts first (lines_of taken).whole ((lines_of taken).rest ∷ [])))
+        (both_run (run_lines mounts first (lines_of taken).whole) (λ after. run_lines mounts after ((lines_of taken).rest ∷ [])) result s new start mid now so_far alone))
     | inr off ↦
         let none_runs : Runs (stopped s [] false) result new mid now = rw off.0 at runs in
-        subst (λ ls. Runs (run_lines files first ls) result new start now) (sym (ap (λ (l : Lines). l.whole) (lines_more taken byte off.1)))
-        (subst (λ r. Runs r result new start now) (nothing_more false (run_lines files first (lines_of taken).whole) so_far.quit)
-        (both_run (run_lines files first (lines_of taken).whole) (λ after. stopped after [] false) result s new start mid now so_far none_runs))
+        subst (λ ls. Runs (run_lines mounts first ls) result new start now) (sym (ap (λ (l : Lines). l.whole) (lines_more taken byte off.1)))
+        (subst (λ r. Runs r result new start now) (nothing_more false (run_lines mounts first (lines_of taken).whole) so_far.quit)
+        (both_run (run_lines mounts first (lines_of taken).whole) (λ after. stopped after [] false) result s new start mid now so_far none_runs))
   ]
 
   -- the same before bytes that are not run
-  pub byte_quits : (all more : List ℕ) → all ≡ (taken ++ byte ∷ []) ++ more → IsRun (byte_run files s pending byte) true new mid now → IsRun (run_lines files first (lines_of all).whole) true new start now
+  pub byte_quits : (all more : List ℕ) → all ≡ (taken ++ byte ∷ []) ++ more → IsRun (byte_run mounts s pending byte) true new mid now → IsRun (run_lines mounts first (lines_of all).whole) true new start now
   byte_quits all more is runs =
       let later = lines_later (taken ++ byte ∷ []) more in
       let whole_is : (lines_of all).whole ≡ (lines_of (taken ++ byte ∷ [])).whole ++ later.0 = ap (λ (t : List ℕ). (lines_of t).whole) is ∙ later.1 in
-      subst (λ ls. IsRun (run_lines files first ls) true new start now) (sym whole_is)
-      (subst (λ r. IsRun r true new start now) (sym (run_append files first (lines_of (taken ++ byte ∷ [])).whole later.0))
-      (quit_run (run_lines files first (lines_of (taken ++ byte ∷ [])).whole) (λ after. run_lines files after later.0) new start now (byte_runs (Ok true) runs)))
+      subst (λ ls. IsRun (run_lines mounts first ls) true new start now) (sym whole_is)
+      (subst (λ r. IsRun r true new start now) (sym (run_append mounts first (lines_of (taken ++ byte ∷ [])).whole later.0))
+      (quit_run (run_lines mounts first (lines_of (taken ++ byte ∷ [])).whole) (λ after. run_lines mounts after later.0) new start now (byte_runs (Ok true) runs)))
 
-  pub byte_cuts : (all more : List ℕ) (error : Fault) → all ≡ (taken ++ byte ∷ []) ++ more → IsCutShort (byte_run files s pending byte).replies error mid now → IsCutShort (run_lines files first (lines_of all).whole).replies error start now
+  pub byte_cuts : (all more : List ℕ) (error : Fault) → all ≡ (taken ++ byte ∷ []) ++ more → IsCutShort (byte_run mounts s pending byte).replies error mid now → IsCutShort (run_lines mounts first (lines_of all).whole).replies error start now
   byte_cuts all more error is cut =
       let later = lines_later (taken ++ byte ∷ []) more in
       let whole_is : (lines_of all).whole ≡ (lines_of (taken ++ byte ∷ [])).whole ++ later.0 = ap (λ (t : List ℕ). (lines_of t).whole) is ∙ later.1 in
-      subst (λ ls. IsCutShort (run_lines files first ls).replies error start now) (sym whole_is)
-      (subst (λ (r : Ran). IsCutShort r.replies error start now) (sym (run_append files first (lines_of (taken ++ byte ∷ [])).whole later.0))
-      (cut_run (run_lines files first (lines_of (taken ++ byte ∷ [])).whole) (λ after. run_lines files after later.0) error start now (byte_runs (Err error) cut)))
+      subst (λ ls. IsCutShort (run_lines mounts first ls).replies error start now) (sym whole_is)
+      (subst (λ (r : Ran). IsCutShort r.replies error start now) (sym (run_append mounts first (lines_of (taken ++ byte ∷ [])).whole later.0))
+      (cut_run (run_lines mounts first (lines_of (taken ++ byte ∷ [])).whole) (λ after. run_lines mounts after later.0) error start now (byte_runs (Err error) cut)))
 
 -- the lines of a rest, and then of more bytes
 abbrev pub lines_then : Lines → List ℕ → Lines
@@ -261,25 +261,25 @@ none_in_front (suc n) (byte ∷ bytes) none = (none.0, none_in_front n bytes non
 pub is_pending : (taken pending : List ℕ) → pending ≡ take 8192 (lines_of taken).rest → HasNoNewline pending
 is_pending taken pending is = subst HasNoNewline (sym is) (none_in_front 8192 (lines_of taken).rest (none_in_rest taken))
 
-first_short : (files : List File) (s : State) (front : List ℕ) (whole : List (List ℕ)) → run_lines files s (front_of (take 8192 front) whole) ≡ run_lines files s (front_of front whole)
+first_short : (mounts : List Mount) (s : State) (front : List ℕ) (whole : List (List ℕ)) → run_lines mounts s (front_of (take 8192 front) whole) ≡ run_lines mounts s (front_of front whole)
 unfolding front_of
-first_short files s front [] = refl
-first_short files s front (text ∷ texts) = ap (λ (ran : Ran). followed ran (λ after. run_lines files after texts)) (line_front files s front text)
+first_short mounts s front [] = refl
+first_short mounts s front (text ∷ texts) = ap (λ (ran : Ran). followed ran (λ after. run_lines mounts after texts)) (line_front mounts s front text)
 
 rest_short : (front : List ℕ) (whole : List (List ℕ)) (rest : List ℕ) → take 8192 (rest_of (take 8192 front) whole rest) ≡ take 8192 (rest_of front whole rest)
 unfolding rest_of
 rest_short front [] rest = take_front 8192 front rest
 rest_short front (text ∷ texts) rest = refl
 
-module _ (files : List File) (s : State) (front more : List ℕ) (none : HasNoNewline front) where
+module _ (mounts : List Mount) (s : State) (front more : List ℕ) (none : HasNoNewline front) where
   kept_behind : lines_of (take 8192 front ++ more) ≡ record { whole = front_of (take 8192 front) (lines_of more).whole; rest = rest_of (take 8192 front) (lines_of more).whole (lines_of more).rest }
   kept_behind = lines_behind (take 8192 front) more (none_in_front 8192 front none)
 
   -- the lines behind what is kept run as those behind all of it
-  kept_runs : run_lines files s (lines_of (take 8192 front ++ more)).whole ≡ run_lines files s (lines_of (front ++ more)).whole
+  kept_runs : run_lines mounts s (lines_of (take 8192 front ++ more)).whole ≡ run_lines mounts s (lines_of (front ++ more)).whole
   kept_runs =
-      ap (λ (lines : Lines). run_lines files s lines.whole) kept_behind ∙ first_short files s front (lines_of more).whole
-      ∙ sym (ap (λ (lines : Lines). run_lines files s lines.whole) (lines_behind front more none))
+      ap (λ (lines : Lines). run_lines mounts s lines.whole) kept_behind ∙ first_short mounts s front (lines_of more).whole
+      ∙ sym (ap (λ (lines : Lines). run_lines mounts s lines.whole) (lines_behind front more none))
 
   kept_rest : take 8192 (lines_of (take 8192 front ++ more)).rest ≡ take 8192 (lines_of (front ++ more)).rest
   kept_rest =
@@ -287,20 +287,20 @@ module _ (files : List File) (s : State) (front more : List ℕ) (none : HasNoNe
       ∙ sym (ap (λ (lines : Lines). take 8192 lines.rest) (lines_behind front more none))
 
 -- a piece more was taken, and its whole lines were run
-pub piece_runs : (files : List File) (first s new : State) (taken piece pending : List ℕ) (result : Result Bool Fault) (start mid now : Option (List ℕ)) → IsRun (run_lines files first (lines_of taken).whole) false s start mid → pending ≡ take 8192 (lines_of taken).rest
-    → Runs (run_lines files s (lines_of (pending ++ piece)).whole) result new mid now → Runs (run_lines files first (lines_of (taken ++ piece)).whole) result new start now
-piece_runs files first s new taken piece pending result start mid now so_far is runs =
+pub piece_runs : (mounts : List Mount) (first s new : State) (taken piece pending : List ℕ) (result : Result Bool Fault) (start mid now : Option (List ℕ)) → IsRun (run_lines mounts first (lines_of taken).whole) false s start mid → pending ≡ take 8192 (lines_of taken).rest
+    → Runs (run_lines mounts s (lines_of (pending ++ piece)).whole) result new mid now → Runs (run_lines mounts first (lines_of (taken ++ piece)).whole) result new start now
+piece_runs mounts first s new taken piece pending result start mid now so_far is runs =
     let rest = (lines_of taken).rest in
-    let kept : Runs (run_lines files s (lines_of (take 8192 rest ++ piece)).whole) result new mid now = subst (λ p. Runs (run_lines files s (lines_of (p ++ piece)).whole) result new mid now) is runs in
-    let here : Runs (run_lines files s (lines_of (rest ++ piece)).whole) result new mid now = subst (λ r. Runs r result new mid now) (kept_runs files s rest piece (none_in_rest taken)) kept in
+    let kept : Runs (run_lines mounts s (lines_of (take 8192 rest ++ piece)).whole) result new mid now = subst (λ p. Runs (run_lines mounts s (lines_of (p ++ piece)).whole) result new mid now) is runs in
+    let here : Runs (run_lines mounts s (lines_of (rest ++ piece)).whole) result new mid now = subst (λ r. Runs r result new mid now) (kept_runs mounts s rest piece (none_in_rest taken)) kept in
     let more : List (List ℕ) = (lines_of (rest ++ piece)).whole in
-    subst (λ ls. Runs (run_lines files first ls) result new start now) (sym (ap (λ (l : Lines). l.whole) (lines_append taken piece)))
-    (subst (λ r. Runs r result new start now) (sym (run_append files first (lines_of taken).whole more))
-    (both_run (run_lines files first (lines_of taken).whole) (λ after. run_lines files after more) result s new start mid now so_far here))
+    subst (λ ls. Runs (run_lines mounts first ls) result new start now) (sym (ap (λ (l : Lines). l.whole) (lines_append taken piece)))
+    (subst (λ r. Runs r result new start now) (sym (run_append mounts first (lines_of taken).whole more))
+    (both_run (run_lines mounts first (lines_of taken).whole) (λ after. run_lines mounts after more) result s new start mid now so_far here))
 
-pub piece_rest : (files : List File) (taken piece pending now : List ℕ) (s : State) → pending ≡ take 8192 (lines_of taken).rest → now ≡ take 8192 (lines_of (pending ++ piece)).rest → now ≡ take 8192 (lines_of (taken ++ piece)).rest
-piece_rest files taken piece pending now s is now_is =
-    now_is ∙ ap (λ (p : List ℕ). take 8192 (lines_of (p ++ piece)).rest) is ∙ kept_rest files s (lines_of taken).rest piece (none_in_rest taken) ∙ sym (ap (λ (l : Lines). take 8192 l.rest) (lines_append taken piece))
+pub piece_rest : (mounts : List Mount) (taken piece pending now : List ℕ) (s : State) → pending ≡ take 8192 (lines_of taken).rest → now ≡ take 8192 (lines_of (pending ++ piece)).rest → now ≡ take 8192 (lines_of (taken ++ piece)).rest
+piece_rest mounts taken piece pending now s is now_is =
+    now_is ∙ ap (λ (p : List ℕ). take 8192 (lines_of (p ++ piece)).rest) is ∙ kept_rest mounts s (lines_of taken).rest piece (none_in_rest taken) ∙ sym (ap (λ (l : Lines). take 8192 l.rest) (lines_append taken piece))
 
 -- a piece that was taken, behind what was taken before
 pub took_more : (taken piece : List ℕ) (start mid now : Option (List ℕ)) → Took taken start mid → Took piece mid now → Took (taken ++ piece) start now

@@ -1,10 +1,13 @@
 -- The commands.
-use Rattle.std.specs.Prelude.{ℕ, ◌+◌, Bool, ◌==◌, nat_le, if◌then◌else◌, List, [], ◌∷◌, ◌++◌, length, drop, slice_index_or, Option, Some, None, Result, Ok, Err, codes, decimal}
+use Rattle.std.specs.Prelude.{ℕ, ◌+◌, Bool, ◌==◌, nat_le, if◌then◌else◌, List, [], ◌∷◌, ◌++◌, length, map, drop, slice_index_or, Option, Some, None, Result, Ok, Err, codes, decimal}
 use Rattle.std.specs.Str.{str_eq_ignore_ascii_case}
 use Rattle.base_fields.specs.Names.{lawful_name, base_of}
 use Rattle.base_fields.specs.Numbers.{number_of}
 use Rattle.base_fields.specs.Texts.{until_zero}
-use Rattle.outside_io.specs.Files.{File}
+use Rattle.search_paths.specs.Mounts.{Mount}
+use Rattle.search_paths.specs.declared.answers.MountRow.{MountRow}
+use Rattle.search_paths.specs.declared.answers.MountRow.TheVariants as row
+use Rattle.file_load.specs.Loads.{Load, Load.Missing, Load.Beyond, Load.NoRoom, Load.At, Loading, load_low}
 use Rattle.mem_model.specs.Memory.{Memory, low_used}
 use Rattle.mem_model.specs.Answer.{Answered}
 use Rattle.mem_model.specs.Event.{Shortage}
@@ -16,7 +19,6 @@ use Rattle.cmd_buffer.specs.Aliases.{AliasText, AliasSet, AliasRefusal, AliasRef
 use Rattle.cvar_table.specs.Cvars.{CvarSet, cvar_value, set_cvar}
 use Rattle.reply_pieces.specs.Pieces.{joined}
 use Rattle.console_core.specs.States.{State, Did, says, takes, loads}
-use Rattle.console_core.specs.Loads.{Load, Missing, NoRoom, At, Loading, load_low}
 use Rattle.console_core.specs.declared.ends.Next.TheVariants.{Goes, Waits, Quits}
 use Rattle.console_core.specs.declared.verbs.Verb.{Verb}
 use Rattle.console_core.specs.declared.verbs.Verb.TheVariants as verb
@@ -36,7 +38,8 @@ verb_of word = if str_eq_ignore_ascii_case word (codes "file") then Some verb.Fi
     else (if str_eq_ignore_ascii_case word (codes "video") then Some verb.Video
     else (if str_eq_ignore_ascii_case word (codes "level") then Some verb.Level
     else (if str_eq_ignore_ascii_case word (codes "report") then Some verb.Report
-    else (if str_eq_ignore_ascii_case word (codes "alias") then Some verb.Alias else None)))))))))
+    else (if str_eq_ignore_ascii_case word (codes "alias") then Some verb.Alias
+    else (if str_eq_ignore_ascii_case word (codes "path") then Some verb.Path else None))))))))))
 
 -- each word followed by a space, and a newline at the end
 abbrev pub spaced : List (List ℕ) → List ℕ
@@ -55,21 +58,26 @@ bad_number s = says s Goes (joined (codes "bad number\n" ∷ []))
 abbrev pub short_text : ℕ → List ℕ
 short_text asked = joined (codes "failed on " ∷ decimal asked ∷ codes " bytes\n" ∷ [])
 
+-- a file ends here, past the end of its pack
+abbrev pub beyond_text : List ℕ → (end whole : ℕ) → List ℕ
+beyond_text name end whole = joined (codes "beyond pack: " ∷ name ∷ codes " ends at " ∷ decimal end ∷ codes " of " ∷ decimal whole ∷ codes "\n" ∷ [])
+
 abbrev pub file_text : List ℕ → Load → List ℕ
 file_text name Missing = joined (codes "not found: " ∷ name ∷ codes "\n" ∷ [])
-file_text name (NoRoom asked) = short_text asked
+file_text name (Beyond end whole) = beyond_text name end whole
+file_text name (NoRoom shortage) = short_text shortage.asked
 file_text name (At place bytes) = joined (codes "file " ∷ name ∷ codes " " ∷ decimal (length bytes) ∷ codes " at " ∷ decimal place ∷ codes "\n" ∷ [])
 
 abbrev pub filed : State → List ℕ → Loading → Did
 filed s name loading = loads (record s { memory = loading.after }) (file_text name loading.load)
 
 -- `file`, by its name where that is lawful
-abbrev pub file_named : List File → State → Option (List ℕ) → Did
-file_named files s None = bad_name s
-file_named files s (Some name) = filed s name (load_low files s.memory name)
+abbrev pub file_named : List Mount → State → Option (List ℕ) → Did
+file_named mounts s None = bad_name s
+file_named mounts s (Some name) = filed s name (load_low mounts s.memory name)
 
-abbrev pub answer_file : List File → State → List (List ℕ) → Did
-answer_file files s words = file_named files s (lawful_name (word_at 1 words))
+abbrev pub answer_file : List Mount → State → List (List ℕ) → Did
+answer_file mounts s words = file_named mounts s (lawful_name (word_at 1 words))
 
 -- the buffer holds 8191 bytes
 abbrev pub fits_in : List ℕ → List ℕ → Bool
@@ -85,15 +93,16 @@ inserted s m name text = loads (record s { memory = m; buffer = (if fits_in text
 -- what was loaded is inserted in front of the buffer, and the low hunk is freed to the mark before the load
 abbrev pub executed : State → List ℕ → Memory → Load → Did
 executed s name m Missing = loads (record s { memory = m }) (joined (codes "couldn't exec " ∷ name ∷ codes "\n" ∷ []))
-executed s name m (NoRoom asked) = loads (record s { memory = m }) (short_text asked)
+executed s name m (Beyond end whole) = loads (record s { memory = m }) (beyond_text name end whole)
+executed s name m (NoRoom shortage) = loads (record s { memory = m }) (short_text shortage.asked)
 executed s name m (At place bytes) = inserted s (low_free m (low_used s.memory)).after name (until_zero bytes)
 
-abbrev pub exec_named : List File → State → Option (List ℕ) → Did
-exec_named files s None = bad_name s
-exec_named files s (Some name) = executed s name (load_low files s.memory name).after (load_low files s.memory name).load
+abbrev pub exec_named : List Mount → State → Option (List ℕ) → Did
+exec_named mounts s None = bad_name s
+exec_named mounts s (Some name) = executed s name (load_low mounts s.memory name).after (load_low mounts s.memory name).load
 
-abbrev pub answer_exec : List File → State → List (List ℕ) → Did
-answer_exec files s words = exec_named files s (lawful_name (word_at 1 words))
+abbrev pub answer_exec : List Mount → State → List (List ℕ) → Did
+answer_exec mounts s words = exec_named mounts s (lawful_name (word_at 1 words))
 
 -- what a command does with a number and a name, which are refused in this order
 abbrev pub of_number_and_name : State → (ℕ → List ℕ → Did) → Option ℕ → Option (List ℕ) → Did
@@ -130,6 +139,18 @@ answer_video s words = of_number_and_name s (video_set s) (number_of (word_at 1 
 -- the host level becomes where the low hunk ends
 abbrev pub answer_level : State → Did
 answer_level s = says (record s { level = low_used s.memory }) Goes (joined (codes "level " ∷ decimal (low_used s.memory) ∷ codes "\n" ∷ []))
+
+-- a mount as `path` lists it
+abbrev pub mount_line : MountRow → List ℕ
+mount_line (row.Folder folder) = joined (codes "folder " ∷ decimal folder ∷ codes "\n" ∷ [])
+mount_line (row.Pack folder pack count) = joined (codes "pack " ∷ decimal folder ∷ codes " pak" ∷ decimal pack ∷ codes ".pak " ∷ decimal count ∷ codes " files\n" ∷ [])
+
+abbrev pub mount_lines : List MountRow → List ℕ
+mount_lines [] = []
+mount_lines (listed ∷ others) = mount_line listed ++ mount_lines others
+
+abbrev pub answer_path : List Mount → State → Did
+answer_path mounts s = says s Goes (mount_lines (map (λ (mount : Mount). mount.row) mounts))
 
 abbrev pub answer_report : State → Did
 answer_report s = says s Goes (report_text s.memory)
@@ -205,28 +226,29 @@ abbrev pub by_name : State → List (List ℕ) → Did
 by_name s words = by_alias s words (alias_value s.memory s.newest (word_at 0 words))
 
 -- one arm for each command
-abbrev pub by_verb : List File → State → List (List ℕ) → Option Verb → Did
-by_verb files s words None = by_name s words
-by_verb files s words (Some verb.File) = answer_file files s words
-by_verb files s words (Some verb.Echo) = answer_echo s words
-by_verb files s words (Some verb.Exec) = answer_exec files s words
-by_verb files s words (Some verb.Wait) = says s Waits []
-by_verb files s words (Some verb.Quit) = says s Quits []
-by_verb files s words (Some verb.Reserve) = answer_reserve s words
-by_verb files s words (Some verb.Video) = answer_video s words
-by_verb files s words (Some verb.Level) = answer_level s
-by_verb files s words (Some verb.Report) = answer_report s
-by_verb files s words (Some verb.Alias) = answer_alias s words
+abbrev pub by_verb : List Mount → State → List (List ℕ) → Option Verb → Did
+by_verb mounts s words None = by_name s words
+by_verb mounts s words (Some verb.File) = answer_file mounts s words
+by_verb mounts s words (Some verb.Echo) = answer_echo s words
+by_verb mounts s words (Some verb.Exec) = answer_exec mounts s words
+by_verb mounts s words (Some verb.Wait) = says s Waits []
+by_verb mounts s words (Some verb.Quit) = says s Quits []
+by_verb mounts s words (Some verb.Reserve) = answer_reserve s words
+by_verb mounts s words (Some verb.Video) = answer_video s words
+by_verb mounts s words (Some verb.Level) = answer_level s
+by_verb mounts s words (Some verb.Report) = answer_report s
+by_verb mounts s words (Some verb.Alias) = answer_alias s words
+by_verb mounts s words (Some verb.Path) = answer_path mounts s
 
 -- a text without words does nothing
-abbrev pub by_words : List File → State → List (List ℕ) → Did
-by_words files s words = if length words == 0 then says s Goes [] else by_verb files s words (verb_of (word_at 0 words))
+abbrev pub by_words : List Mount → State → List (List ℕ) → Did
+by_words mounts s words = if length words == 0 then says s Goes [] else by_verb mounts s words (verb_of (word_at 0 words))
 
 -- the command of a text that was taken, or of one that is too long
-abbrev pub by_text : List File → State → Option (List ℕ) → Did
-by_text files s None = says s Goes (joined (codes "line too long\n" ∷ []))
-by_text files s (Some text) = by_words files s (words_of text)
+abbrev pub by_text : List Mount → State → Option (List ℕ) → Did
+by_text mounts s None = says s Goes (joined (codes "line too long\n" ∷ []))
+by_text mounts s (Some text) = by_words mounts s (words_of text)
 
 -- the first command of the buffer
-unfoldable pub command : List File → State → Did
-command files s = by_text files (record s { buffer = (cut s.buffer).rest }) (kept (cut s.buffer).command)
+unfoldable pub command : List Mount → State → Did
+command mounts s = by_text mounts (record s { buffer = (cut s.buffer).rest }) (kept (cut s.buffer).command)

@@ -1,5 +1,5 @@
 -- How a run ends.
-use Rattle.std.specs.Prelude.{◌≡◌, ◌↔◌, ◌<◌, ◌≤◌, ◌+◌, ◌*◌, ◌⊎◌, ℕ, List, [], length, take, slice_get, slice_index, ⊤, true, false, Option, Some, None, Result, Ok, Err, IfSome, IfOk, map, option_and_then, codes}
+use Rattle.std.specs.Prelude.{◌≡◌, ◌↔◌, ◌<◌, ◌≤◌, ◌+◌, ◌-◌, ◌*◌, ◌⊎◌, ◌++◌, ◌∷◌, ℕ, List, [], length, take, drop, map, slice_get, slice_index, ⊤, true, false, Option, Some, None, Result, Ok, Err, IfSome, IfOk, IsOkAnd, IsErr, codes, decimal}
 use Rattle.outside_io.specs.Causes.{Rose}
 use Rattle.outside_io.specs.Files.{File}
 use Rattle.outside_io.specs.Streams.{Adds, Took}
@@ -10,30 +10,62 @@ use Rattle.mem_model.specs.Places.{hunk_need}
 use Rattle.console_core.specs.States.{State, started}
 use Rattle.console_core.specs.Runs.{texts, IsCutShort, run_lines, lines_of, run}
 use Rattle.console_core.specs.Reading.{limit}
+use Rattle.pack_files.specs.declared.faults.PackFault.{PackFault}
+use Rattle.pack_files.specs.declared.faults.PackFault.TheVariants.{NotPack, TooMany, DirOutside}
+use Rattle.reply_pieces.specs.Pieces.{joined}
+use Rattle.search_paths.specs.Mounts.{Mount, mounted}
+use Rattle.search_paths.specs.Counts.{NoneFalls}
+use Rattle.search_paths.specs.Path.{PathState, all_some, told_of, counts_of, mounts_of}
+use Rattle.search_paths.specs.declared.answers.MountError.{MountError}
+use Rattle.search_paths.specs.declared.answers.MountError.TheVariants as error
 use Rattle.console_core.specs.declared.ends.Fault.{Fault}
 use Rattle.console_core.specs.declared.ends.Fault.TheVariants as fault
 use Rattle.console_core.specs.declared.status.Status.{Status}
-use Rattle.console_core.specs.declared.status.Status.TheVariants.{Done, Usage, OutOfMemory, TooSmall, ScriptFault, FolderFault, WriteFault, ScriptTooLong}
+use Rattle.console_core.specs.declared.status.Status.TheVariants.{Done, Usage, OutOfMemory, TooSmall, BadPack, ScriptFault, FolderFault, WriteFault, ScriptTooLong}
 
 abbrev pub code_of : {F : Type 0} → Status F → ℕ
 code_of Done = 0
 code_of (Usage word) = 1
 code_of OutOfMemory = 2
 code_of TooSmall = 3
+code_of (BadPack folder pack fault) = 4
 code_of ScriptFault = 5
 code_of (FolderFault word folder) = 6
 code_of WriteFault = 7
 code_of ScriptTooLong = 8
+
+-- why a pack was not taken
+abbrev pub fault_text : PackFault → List ℕ
+fault_text NotPack = codes "not a pack"
+fault_text (TooMany count) = decimal count ++ codes " entries"
+fault_text DirOutside = codes "directory outside"
+
+-- the folder's number among those that were mounted, and the pack's
+abbrev pub bad_pack_text : (folder pack : ℕ) → PackFault → List ℕ
+bad_pack_text folder pack fault = joined (codes "bad pack " ∷ decimal folder ∷ codes " " ∷ decimal pack ∷ codes ": " ∷ fault_text fault ∷ [])
 
 abbrev pub status_text : {F : Type 0} → Status F → List ℕ
 status_text Done = []
 status_text (Usage word) = codes "usage: quake_cli [-heapsize KB] [-zone KB] [-speed HZ] folder ..."
 status_text OutOfMemory = codes "out of memory"
 status_text TooSmall = codes "heap too small"
+status_text (BadPack folder pack fault) = bad_pack_text folder pack fault
 status_text ScriptFault = codes "script read fault"
 status_text (FolderFault word folder) = codes "folder read fault"
 status_text WriteFault = codes "write fault"
 status_text ScriptTooLong = codes "script too long"
+
+-- the same but for a bad pack
+abbrev pub plain_text : {F : Type 0} → Status F → List ℕ
+plain_text Done = []
+plain_text (Usage word) = codes "usage: quake_cli [-heapsize KB] [-zone KB] [-speed HZ] folder ..."
+plain_text OutOfMemory = codes "out of memory"
+plain_text TooSmall = codes "heap too small"
+plain_text (BadPack folder pack fault) = []
+plain_text ScriptFault = codes "script read fault"
+plain_text (FolderFault word folder) = codes "folder read fault"
+plain_text WriteFault = codes "write fault"
+plain_text ScriptTooLong = codes "script too long"
 
 -- the word of a faulty command line
 abbrev pub usage_of : {F : Type 0} → Status F → Option ℕ
@@ -41,15 +73,16 @@ usage_of Done = None
 usage_of (Usage word) = Some word
 usage_of OutOfMemory = None
 usage_of TooSmall = None
+usage_of (BadPack folder pack fault) = None
 usage_of ScriptFault = None
 usage_of (FolderFault word folder) = None
 usage_of WriteFault = None
 usage_of ScriptTooLong = None
 
--- What the words ask for, with one folder, or the number of the first that breaks the rule.
+-- What the words ask for, with 1 to 8 folders, or the number of the first that breaks the rule.
 abbrev pub Asks : List (List ℕ) → Result Request ℕ → Type 0
-Asks words (Ok request) = IsAsked words 1 request
-Asks words (Err word) = IsFirstBad words 1 word
+Asks words (Ok request) = IsAsked words 8 request
+Asks words (Err word) = IsFirstBad words 8 word
 
 abbrev pub fault_of : Result Request ℕ → Option ℕ
 fault_of (Ok request) = None
@@ -59,112 +92,167 @@ fault_of (Err word) = Some word
 abbrev pub AsksTooMuch : Request → Type 0
 AsksTooMuch request = 1024 * request.heap < hunk_need (1024 * request.zone)
 
--- the files that the folder of this number tells
-abbrev pub told_at : ℕ → List (Option (List File)) → Option (List File)
-told_at number files = option_and_then (λ told. told) (slice_get files number)
-
 -- the state at the start, with a heap and a zone of so many KB, and 768 cache users
 abbrev pub first_state : Request → State
 first_state request = started (new_memory (1024 * request.heap) (1024 * request.zone) 768 0)
 
 -- The replies of the run over the whole script were put, up to `quit` where that was executed. The script was taken to its
 -- end, or what was taken holds the line in whose frame `quit` was executed.
-pub record IsWhole (told : Option (List File)) (first : State) (rest_before rest_now start now : Option (List ℕ)) : Type 0 where
+pub record IsWhole (told : Option (List Mount)) (first : State) (rest_before rest_now start now : Option (List ℕ)) : Type 0 where
   pub taken : List ℕ
   pub took : Took taken rest_before rest_now
   pub size : length taken ≤ limit
-  pub put : IfSome told (λ files. IfSome rest_before (λ script. Adds (texts (run files first script).replies) start now))
-  pub all : IfSome rest_now (λ left. left ≡ []) ⊎ IfSome told (λ files. (run_lines files first (lines_of taken).whole).quit ≡ true)
+  pub put : IfSome told (λ mounts. IfSome rest_before (λ script. Adds (texts (run mounts first script).replies) start now))
+  pub all : IfSome rest_now (λ left. left ≡ []) ⊎ IfSome told (λ mounts. (run_lines mounts first (lines_of taken).whole).quit ≡ true)
 
 -- a fault ended the run over the whole script in one of its replies
-pub record IsCutAt (fault : Fault) (told : Option (List File)) (first : State) (rest_before rest_now start now : Option (List ℕ)) : Type 0 where
+pub record IsCutAt (fault : Fault) (told : Option (List Mount)) (first : State) (rest_before rest_now start now : Option (List ℕ)) : Type 0 where
   pub taken : List ℕ
   pub took : Took taken rest_before rest_now
   pub size : length taken ≤ limit
-  pub put : IfSome told (λ files. IfSome rest_before (λ script. IsCutShort (run files first script).replies fault start now))
+  pub put : IfSome told (λ mounts. IfSome rest_before (λ script. IsCutShort (run mounts first script).replies fault start now))
 
 -- the replies over the whole lines of these bytes were put, and `quit` was executed in no frame of them
-pub record LinesWerePut (files : List File) (first : State) (bytes : List ℕ) (start now : Option (List ℕ)) : Type 0 where
-  pub quit : (run_lines files first (lines_of bytes).whole).quit ≡ false
-  pub put : Adds (texts (run_lines files first (lines_of bytes).whole).replies) start now
+pub record LinesWerePut (mounts : List Mount) (first : State) (bytes : List ℕ) (start now : Option (List ℕ)) : Type 0 where
+  pub quit : (run_lines mounts first (lines_of bytes).whole).quit ≡ false
+  pub put : Adds (texts (run_lines mounts first (lines_of bytes).whole).replies) start now
 
 -- a read failed behind these bytes, whose whole lines were run
-pub record IsFailed (told : Option (List File)) (first : State) (rest_before rest_now start now : Option (List ℕ)) : Type 0 where
+pub record IsFailed (told : Option (List Mount)) (first : State) (rest_before rest_now start now : Option (List ℕ)) : Type 0 where
   pub taken : List ℕ
   pub took : Took taken rest_before rest_now
   pub size : length taken ≤ limit
-  pub put : IfSome told (λ files. LinesWerePut files first taken start now)
+  pub put : IfSome told (λ mounts. LinesWerePut mounts first taken start now)
 
 -- a byte past the limit was taken, and the whole lines of the bytes before it were run
-pub record IsPastLimit (told : Option (List File)) (first : State) (rest_before rest_now start now : Option (List ℕ)) : Type 0 where
+pub record IsPastLimit (told : Option (List Mount)) (first : State) (rest_before rest_now start now : Option (List ℕ)) : Type 0 where
   pub taken : List ℕ
   pub took : Took taken rest_before rest_now
   pub size : length taken ≡ limit + 1
-  pub put : IfSome told (λ files. LinesWerePut files first (take limit taken) start now)
+  pub put : IfSome told (λ mounts. LinesWerePut mounts first (take limit taken) start now)
 
 -- nothing was taken and nothing was put
 pub record IsUntouched (rest_before rest_now start now : Option (List ℕ)) : Type 0 where
   pub rest : rest_now ≡ rest_before
   pub put : now ≡ start
 
--- What was taken of the script and what was put, for each status.
-abbrev pub Ends : {F : Type 0} → Option (List File) → (first : State) → (rest_before rest_now start now : Option (List ℕ)) → Status F → Type 0
-Ends told first rest_before rest_now start now Done = IsWhole told first rest_before rest_now start now
-Ends told first rest_before rest_now start now (Usage word) = IsUntouched rest_before rest_now start now
-Ends told first rest_before rest_now start now OutOfMemory = IsUntouched rest_before rest_now start now ⊎ IsCutAt fault.Memory told first rest_before rest_now start now
-Ends told first rest_before rest_now start now TooSmall = IsUntouched rest_before rest_now start now
-Ends told first rest_before rest_now start now ScriptFault = IsFailed told first rest_before rest_now start now
-Ends told first rest_before rest_now start now (FolderFault word folder) = IsCutAt fault.Folder told first rest_before rest_now start now
-Ends told first rest_before rest_now start now WriteFault = IsCutAt fault.Write told first rest_before rest_now start now
-Ends told first rest_before rest_now start now ScriptTooLong = IsPastLimit told first rest_before rest_now start now
+-- What is so of the run on the path of these folders, which has no bad pack, where they tell their files.
+abbrev pub OnPath : Option (List (List File)) → (Option (List Mount) → Type 0) → Type 0
+OnPath None run = run None
+OnPath (Some folders) run = (mounts : List Mount) × (mounted folders ≡ Ok mounts) × run (Some mounts)
 
--- the files that the folder that is asked for tells
-abbrev pub told_for : Result Request ℕ → List (Option (List File)) → Option (List File)
-told_for (Ok request) files = told_at request.first files
-told_for (Err word) files = None
+-- What a run on a path of these mounts took of the script and put, for each status that it may have.
+abbrev pub RunEnds : {F : Type 0} → Option (List Mount) → Request → (rest_before rest_now start now : Option (List ℕ)) → Status F → Type 0
+RunEnds mounts request rest_before rest_now start now Done = IsWhole mounts (first_state request) rest_before rest_now start now
+RunEnds mounts request rest_before rest_now start now (Usage word) = ⊥
+RunEnds mounts request rest_before rest_now start now OutOfMemory = IsCutAt fault.Memory mounts (first_state request) rest_before rest_now start now
+RunEnds mounts request rest_before rest_now start now TooSmall = ⊥
+RunEnds mounts request rest_before rest_now start now (BadPack folder pack fault) = ⊥
+RunEnds mounts request rest_before rest_now start now ScriptFault = IsFailed mounts (first_state request) rest_before rest_now start now
+RunEnds mounts request rest_before rest_now start now (FolderFault word folder) = IsCutAt (fault.Folder (word - request.first)) mounts (first_state request) rest_before rest_now start now
+RunEnds mounts request rest_before rest_now start now WriteFault = IsCutAt fault.Write mounts (first_state request) rest_before rest_now start now
+RunEnds mounts request rest_before rest_now start now ScriptTooLong = IsPastLimit mounts (first_state request) rest_before rest_now start now
 
--- its count of faults
-abbrev pub count_for : Result Request ℕ → List ℕ → ℕ
-count_for (Ok request) counts = slice_index counts request.first
-count_for (Err word) counts = 0
+-- what may end the opening, of which a bad pack is the first of these folders
+abbrev pub OpeningEnds : {F : Type 0} → Option (List (List File)) → Status F → Type 0
+OpeningEnds told Done = ⊥
+OpeningEnds told (Usage word) = ⊥
+OpeningEnds told OutOfMemory = ⊤
+OpeningEnds told TooSmall = ⊤
+OpeningEnds told (BadPack folder pack fault) = IfSome told (λ folders. mounted folders ≡ Err (record { folder = folder; pack = pack; fault = fault }))
+OpeningEnds told ScriptFault = ⊥
+OpeningEnds told (FolderFault word folder) = ⊤
+OpeningEnds told WriteFault = ⊥
+OpeningEnds told ScriptTooLong = ⊥
 
--- the number of its word
-abbrev pub word_for : Result Request ℕ → Option ℕ
-word_for (Ok request) = Some request.first
-word_for (Err word) = None
+-- The opening ended, with nothing taken and nothing put, or a run did, on the path of the folders.
+abbrev pub Ends : {F : Type 0} → Option (List (List File)) → Request → (rest_before rest_now start now : Option (List ℕ)) → Status F → Type 0
+Ends told request rest_before rest_now start now status =
+    (OpeningEnds told status × IsUntouched rest_before rest_now start now)
+    ⊎ OnPath told (λ mounts. RunEnds mounts request rest_before rest_now start now status)
 
--- What was taken and put by words, which may be faulty.
+-- What was taken and put by words, which may be faulty. The folders that are asked for are those of the last words.
 abbrev pub EndsFor : {F : Type 0} → Result Request ℕ → List (Option (List File)) → (rest_before rest_now start now : Option (List ℕ)) → Status F → Type 0
-EndsFor (Ok request) files rest_before rest_now start now status = Ends (told_at request.first files) (first_state request) rest_before rest_now start now status
-EndsFor (Err word) files rest_before rest_now start now status = IsUntouched rest_before rest_now start now
+EndsFor (Ok request) told rest_before rest_now start now status = Ends (all_some (drop request.first told)) request rest_before rest_now start now status
+EndsFor (Err word) told rest_before rest_now start now status = IsUntouched rest_before rest_now start now
 
--- Each fault came from the object that it names: that one's count rose over the run. A faulty command line calls none.
-abbrev pub HasOwnCause : {F : Type 0} → (F → ℕ) → (folder_before script_before script_now sink_before sink_now : ℕ) → Status F → Type 0
-HasOwnCause faults folder_before script_before script_now sink_before sink_now Done = ⊤
-HasOwnCause faults folder_before script_before script_now sink_before sink_now (Usage word) = (script_now ≡ script_before) × (sink_now ≡ sink_before)
-HasOwnCause faults folder_before script_before script_now sink_before sink_now OutOfMemory = ⊤
-HasOwnCause faults folder_before script_before script_now sink_before sink_now TooSmall = (script_now ≡ script_before) × (sink_now ≡ sink_before)
-HasOwnCause faults folder_before script_before script_now sink_before sink_now ScriptFault = Rose script_before script_now
-HasOwnCause faults folder_before script_before script_now sink_before sink_now (FolderFault word folder) = Rose folder_before (faults folder)
-HasOwnCause faults folder_before script_before script_now sink_before sink_now WriteFault = Rose sink_before sink_now
-HasOwnCause faults folder_before script_before script_now sink_before sink_now ScriptTooLong = ⊤
+-- A fault of the script or the sink came from that one: its count rose over the run. A faulty command line, one that asks for too
+-- much, and a bad pack call neither.
+abbrev pub HasOwnCause : {F : Type 0} → (script_before script_now sink_before sink_now : ℕ) → Status F → Type 0
+HasOwnCause script_before script_now sink_before sink_now Done = ⊤
+HasOwnCause script_before script_now sink_before sink_now (Usage word) = (script_now ≡ script_before) × (sink_now ≡ sink_before)
+HasOwnCause script_before script_now sink_before sink_now OutOfMemory = ⊤
+HasOwnCause script_before script_now sink_before sink_now TooSmall = (script_now ≡ script_before) × (sink_now ≡ sink_before)
+HasOwnCause script_before script_now sink_before sink_now (BadPack folder pack fault) = (script_now ≡ script_before) × (sink_now ≡ sink_before)
+HasOwnCause script_before script_now sink_before sink_now ScriptFault = Rose script_before script_now
+HasOwnCause script_before script_now sink_before sink_now (FolderFault word folder) = ⊤
+HasOwnCause script_before script_now sink_before sink_now WriteFault = Rose sink_before sink_now
+HasOwnCause script_before script_now sink_before sink_now ScriptTooLong = ⊤
 
--- the folder that is handed back is that of the word that was asked for, and tells the files that it told before
-abbrev pub HandsBack : {F : Type 0} → (F → Option (List File)) → Option (List File) → Option ℕ → Status F → Type 0
-HandsBack files told asked Done = ⊤
-HandsBack files told asked (Usage word) = ⊤
-HandsBack files told asked OutOfMemory = ⊤
-HandsBack files told asked TooSmall = ⊤
-HandsBack files told asked ScriptFault = ⊤
-HandsBack files told asked (FolderFault word folder) = (files folder ≡ told) × (asked ≡ Some word)
-HandsBack files told asked WriteFault = ⊤
-HandsBack files told asked ScriptTooLong = ⊤
+-- this folder is what became of the one of this number: it tells the files that it told, and its count of faults rose
+pub record IsFailedFolder {F : Type 0} (files_of : F → Option (List File)) (faults_of : F → ℕ) (folders : List F) (number : ℕ) (folder : F) : Type 0 where
+  pub before : F
+  pub is : slice_get folders number ≡ Some before
+  pub told : files_of folder ≡ files_of before
+  pub rose : Rose (faults_of before) (faults_of folder)
 
--- the status of a run that a fault ended, with the folder whose call failed
-abbrev pub IsFaultOf : {F : Type 0} → Fault → ℕ → (F → Option (List File)) → (F → ℕ) → Option (List File) → ℕ → Status F → Type 0
-IsFaultOf {F} fault.Folder word files faults told count status = (folder : F) × (status ≡ FolderFault word folder) × (files folder ≡ told) × (faults folder ≡ count)
-IsFaultOf {F} fault.Write word files faults told count status = status ≡ WriteFault
-IsFaultOf {F} fault.Memory word files faults told count status = status ≡ OutOfMemory
+-- The folder that is handed back is that of a word that was asked for. A bad pack is in one of the folders that were asked for.
+abbrev pub HandsBack : {F : Type 0} → (F → Option (List File)) → (F → ℕ) → List F → Result Request ℕ → Status F → Type 0
+HandsBack files_of faults_of folders asked Done = ⊤
+HandsBack files_of faults_of folders asked (Usage word) = ⊤
+HandsBack files_of faults_of folders asked OutOfMemory = ⊤
+HandsBack files_of faults_of folders asked TooSmall = ⊤
+HandsBack files_of faults_of folders asked (BadPack folder pack fault) = IfOk asked (λ request. folder < request.folders) × (pack < 32)
+HandsBack files_of faults_of folders asked ScriptFault = ⊤
+HandsBack files_of faults_of folders asked (FolderFault word folder) = IfOk asked (λ request. request.first ≤ word) × IsFailedFolder files_of faults_of folders word folder
+HandsBack files_of faults_of folders asked WriteFault = ⊤
+HandsBack files_of faults_of folders asked ScriptTooLong = ⊤
+
+-- The status of a run that a fault ended. The folder of a folder's fault has this number among those that are held; the word of
+-- the first has the number `first`.
+abbrev pub IsFaultOf : {F : Type 0} → Fault → (first : ℕ) → (F → Option (List File)) → (F → ℕ) → List (Option (List File)) → (counts : List ℕ) → Status F → Type 0
+IsFaultOf {F} (fault.Folder number) first files_of faults_of told counts status =
+    (folder : F) × (status ≡ FolderFault (first + number) folder) × (slice_get told number ≡ Some (files_of folder)) × (slice_get counts number ≡ Some (faults_of folder))
+IsFaultOf {F} fault.Write first files_of faults_of told counts status = status ≡ WriteFault
+IsFaultOf {F} fault.Memory first files_of faults_of told counts status = status ≡ OutOfMemory
+
+-- a folder's fault names one of so many
+abbrev pub IsAmong : ℕ → Fault → Type 0
+IsAmong folders (fault.Folder folder) = folder < folders
+IsAmong folders fault.Write = ⊤
+IsAmong folders fault.Memory = ⊤
+
+-- The folder that a folder's fault hands back is that of a word from `first` on; it tells what it told, and its count rose. A bad
+-- pack is in one of the folders.
+abbrev pub HandsOver : {F : Type 0} → (first : ℕ) → (F → Option (List File)) → (F → ℕ) → List (Option (List File)) → (counts : List ℕ) → Status F → Type 0
+HandsOver first files_of faults told counts Done = ⊤
+HandsOver first files_of faults told counts (Usage word) = ⊤
+HandsOver first files_of faults told counts OutOfMemory = ⊤
+HandsOver first files_of faults told counts TooSmall = ⊤
+HandsOver first files_of faults told counts (BadPack folder pack fault) = (folder < length told) × (pack < 32)
+HandsOver first files_of faults told counts ScriptFault = ⊤
+HandsOver first files_of faults told counts (FolderFault word folder) =
+    (number : ℕ) × (word ≡ first + number) × (slice_get told number ≡ Some (files_of folder)) × Rose (slice_index counts number) (faults folder)
+HandsOver first files_of faults told counts WriteFault = ⊤
+HandsOver first files_of faults told counts ScriptTooLong = ⊤
+
+-- The path holds the folders: each tells what it told, and no count of faults fell. Its mounts are theirs, in front of each other.
+pub record IsPathOf {F : Type 0} (files_of : F → Option (List File)) (faults_of : F → ℕ) (folders : List F) (path : PathState F) : Type 0 where
+  pub told : told_of files_of path ≡ map files_of folders
+  pub none_falls : NoneFalls (map faults_of folders) (counts_of faults_of path)
+  pub mounts : IfSome (all_some (map files_of folders)) (λ told. IsOkAnd (mounted told) (λ mounts. mounts_of files_of path ≡ Some mounts))
+
+-- The folders were mounted one after another; or one of them has the first bad pack, or failed.
+abbrev pub IsOpened : {F : Type 0} → (first : ℕ) → (F → Option (List File)) → (F → ℕ) → List F → Result (PathState F) (Status F) → Type 0
+IsOpened first files_of faults_of folders (Ok path) = IsPathOf files_of faults_of folders path
+IsOpened first files_of faults_of folders (Err status) =
+    OpeningEnds (all_some (map files_of folders)) status × HandsOver first files_of faults_of (map files_of folders) (map faults_of folders) status
+
+-- the status of a run whose last folder was not mounted
+abbrev pub IsUnopened : {F : Type 0} → MountError → (first : ℕ) → PathState F → Status F → Type 0
+IsUnopened (error.BadPack folder pack fault) first path status = status ≡ BadPack folder pack fault
+IsUnopened {F} (error.FolderFault number) first path status = (folder : F) × (status ≡ FolderFault (first + number) folder) × (slice_get path.folders number ≡ Some folder)
+IsUnopened error.OutOfMemory first path status = status ≡ OutOfMemory
 
 -- What the words ask for, which is one thing, or which of them breaks the rule; and what came of it: what was taken and put, whose
 -- fault it was, and what was handed back.
@@ -175,16 +263,18 @@ pub record HasOutcome {F : Type 0} (words : List (List ℕ)) (files_of : F → O
   pub usage : usage_of status ≡ fault_of asked
   pub too_small : IfOk asked (λ request. (status ≡ TooSmall) ↔ AsksTooMuch request)
   pub ends : EndsFor asked (map files_of folders) rest_before rest_now start now status
-  pub cause : HasOwnCause faults_of (count_for asked (map faults_of folders)) script_before script_now sink_before sink_now status
-  pub handed_back : HandsBack files_of (told_for asked (map files_of folders)) (word_for asked) status
+  pub cause : HasOwnCause script_before script_now sink_before sink_now status
+  pub handed_back : HandsBack files_of faults_of folders asked status
 
--- an answer to lawful words and a short script where no count of the script or the sink rises
-abbrev pub IsComplete : {F : Type 0} → Status F → Type 0
-IsComplete Done = ⊤
-IsComplete OutOfMemory = ⊤
-IsComplete TooSmall = ⊥
-IsComplete (FolderFault word folder) = ⊤
-IsComplete (Usage word) = ⊥
-IsComplete ScriptFault = ⊥
-IsComplete WriteFault = ⊥
-IsComplete ScriptTooLong = ⊥
+-- An answer to lawful words and a short script where no count of the script or the sink rises. With a bad pack the folders that
+-- were asked for, where they tell their files, are no path.
+abbrev pub IsComplete : {F : Type 0} → Option (List (List File)) → Status F → Type 0
+IsComplete told Done = ⊤
+IsComplete told OutOfMemory = ⊤
+IsComplete told TooSmall = ⊥
+IsComplete told (BadPack folder pack fault) = IfSome told (λ folders. IsErr (mounted folders))
+IsComplete told (FolderFault word folder) = ⊤
+IsComplete told (Usage word) = ⊥
+IsComplete told ScriptFault = ⊥
+IsComplete told WriteFault = ⊥
+IsComplete told ScriptTooLong = ⊥

@@ -1,7 +1,5 @@
-pub mod Mounts
 pub mod States
 pub mod Holding
-pub mod Loads
 pub mod Commands
 pub mod Runs
 pub mod Sessions

@@ -1,7 +1,8 @@
 -- What the reading of a script took, and what was run of it.
 use Rattle.std.specs.Prelude.{◌≡◌, ◌≤◌, ◌+◌, ℕ, List, [], ◌∷◌, take, length, Bool, true, false, Option, IfSome}
 use Rattle.outside_io.specs.Causes.{Rose}
-use Rattle.outside_io.specs.Files.{File}
+use Rattle.search_paths.specs.Mounts.{Mount}
+use Rattle.search_paths.specs.Counts.{NoneFalls}
 use Rattle.outside_io.specs.Streams.{Took}
 use Rattle.console_core.specs.States.{State, CauseOf}
 use Rattle.console_core.specs.Runs.{run_lines, lines_of, IsRun, IsCutShort}
@@ -13,12 +14,12 @@ abbrev pub limit : ℕ
 limit = 1048576
 
 -- the whole lines of what was taken were run; of a script that is too long, those of as many bytes as it may have
-abbrev pub RunsTaken : List File → (first : State) → (taken : List ℕ) → ReadEnd → (after : State) → (start now : Option (List ℕ)) → Type 0
-RunsTaken files first taken AtEnd after start now = IsRun (run_lines files first (lines_of taken).whole) false after start now
-RunsTaken files first taken Quit after start now = IsRun (run_lines files first (lines_of taken).whole) true after start now
-RunsTaken files first taken (Ended fault) after start now = IsCutShort (run_lines files first (lines_of taken).whole).replies fault start now
-RunsTaken files first taken Failed after start now = IsRun (run_lines files first (lines_of taken).whole) false after start now
-RunsTaken files first taken TooLong after start now = IsRun (run_lines files first (lines_of (take limit taken)).whole) false after start now
+abbrev pub RunsTaken : List Mount → (first : State) → (taken : List ℕ) → ReadEnd → (after : State) → (start now : Option (List ℕ)) → Type 0
+RunsTaken mounts first taken AtEnd after start now = IsRun (run_lines mounts first (lines_of taken).whole) false after start now
+RunsTaken mounts first taken Quit after start now = IsRun (run_lines mounts first (lines_of taken).whole) true after start now
+RunsTaken mounts first taken (Ended fault) after start now = IsCutShort (run_lines mounts first (lines_of taken).whole).replies fault start now
+RunsTaken mounts first taken Failed after start now = IsRun (run_lines mounts first (lines_of taken).whole) false after start now
+RunsTaken mounts first taken TooLong after start now = IsRun (run_lines mounts first (lines_of (take limit taken)).whole) false after start now
 
 -- Within the limit all that was taken may be run; a byte past it was taken of a script that is too long. At the end nothing is left.
 abbrev pub EndsAt : ReadEnd → (taken : List ℕ) → (rest : Option (List ℕ)) → Type 0
@@ -44,24 +45,25 @@ ReadsPast (Ended fault) before now = ⊥
 ReadsPast Failed before now = Took [] before now
 ReadsPast TooLong before now = (byte : ℕ) × Took (byte ∷ []) before now
 
--- Each fault has its cause, and no count of faults falls.
-abbrev pub ReadCause : Bool → (folder_before folder_now sink_before sink_now script_before script_now : ℕ) → ReadEnd → Type 0
-ReadCause frugal folder_before folder_now sink_before sink_now script_before script_now AtEnd = Unit {0}
-ReadCause frugal folder_before folder_now sink_before sink_now script_before script_now Quit = Unit {0}
-ReadCause frugal folder_before folder_now sink_before sink_now script_before script_now (Ended fault) = CauseOf frugal folder_before folder_now sink_before sink_now fault
-ReadCause frugal folder_before folder_now sink_before sink_now script_before script_now Failed = Rose script_before script_now
-ReadCause frugal folder_before folder_now sink_before sink_now script_before script_now TooLong = Unit {0}
+-- Each fault has its cause, no count of faults falls, and no folder comes or goes.
+abbrev pub ReadCause : Bool → (faults_before faults_now : List ℕ) → (sink_before sink_now script_before script_now : ℕ) → ReadEnd → Type 0
+ReadCause frugal faults_before faults_now sink_before sink_now script_before script_now AtEnd = Unit {0}
+ReadCause frugal faults_before faults_now sink_before sink_now script_before script_now Quit = Unit {0}
+ReadCause frugal faults_before faults_now sink_before sink_now script_before script_now (Ended fault) = CauseOf frugal faults_before faults_now sink_before sink_now fault
+ReadCause frugal faults_before faults_now sink_before sink_now script_before script_now Failed = Rose script_before script_now
+ReadCause frugal faults_before faults_now sink_before sink_now script_before script_now TooLong = Unit {0}
 
-pub record HasReadCauses (frugal : Bool) (folder_before folder_now sink_before sink_now script_before script_now : ℕ) (end : ReadEnd) : Type 0 where
-  pub folder_counts : folder_before ≤ folder_now
+pub record HasReadCauses (frugal : Bool) (faults_before faults_now : List ℕ) (sink_before sink_now script_before script_now : ℕ) (end : ReadEnd) : Type 0 where
+  pub none_falls : NoneFalls faults_before faults_now
+  pub folders : length faults_now ≡ length faults_before
   pub sink_counts : sink_before ≤ sink_now
   pub script_counts : script_before ≤ script_now
-  pub cause : ReadCause frugal folder_before folder_now sink_before sink_now script_before script_now end
+  pub cause : ReadCause frugal faults_before faults_now sink_before sink_now script_before script_now end
 
 -- Bytes were taken, and what may be run of them was run.
-pub record HasRead (told : Option (List File)) (first after : State) (end : ReadEnd) (pending : List ℕ) (rest_before rest_now start now : Option (List ℕ)) : Type 0 where
+pub record HasRead (told : Option (List Mount)) (first after : State) (end : ReadEnd) (pending : List ℕ) (rest_before rest_now start now : Option (List ℕ)) : Type 0 where
   pub taken : List ℕ
   pub took : Took taken rest_before rest_now
   pub ends : EndsAt end taken rest_now
   pub keeps : Keeps end taken pending
-  pub run : IfSome told (λ files. RunsTaken files first taken end after start now)
+  pub run : IfSome told (λ mounts. RunsTaken mounts first taken end after start now)

@@ -3,7 +3,7 @@ use Prim.Native.Nat.{zero, suc}
 use Rattle.std.specs.Prelude.{◌≡◌, ℕ, List, [], ◌∷◌, ◌++◌, length, take, Bool, true, false, ◌==◌, if◌then◌else◌, Option, Some, None, Result, Ok, Err, codes}
 use Rattle.std.specs.List.{AllByRecursion}
 use Rattle.base_fields.specs.Texts.{until_zero}
-use Rattle.outside_io.specs.Files.{File}
+use Rattle.search_paths.specs.Mounts.{Mount}
 use Rattle.outside_io.specs.Streams.{Adds}
 use Rattle.console_core.specs.States.{State, Reply, CutsOff}
 use Rattle.console_core.specs.Commands.{command, fits_in}
@@ -39,24 +39,24 @@ continued reply s None rest = and_then reply (rest s)
 continued reply s (Some quit) rest = stopped s (reply ∷ []) quit
 
 -- the commands of the buffer, of which at most so many are taken
-unfoldable pub frame : Bool → List File → ℕ → State → Ran
-frame through files zero s = if length s.buffer == 0 then stopped s [] false else stopped (record s { buffer = [] }) (plain (codes "runaway\n") ∷ []) false
-frame through files (suc n) s = if length s.buffer == 0 then stopped s [] false
-    else continued (command files s).reply (command files s).after (ending through (command files s).next) (λ after. frame through files n after)
+unfoldable pub frame : Bool → List Mount → ℕ → State → Ran
+frame through mounts zero s = if length s.buffer == 0 then stopped s [] false else stopped (record s { buffer = [] }) (plain (codes "runaway\n") ∷ []) false
+frame through mounts (suc n) s = if length s.buffer == 0 then stopped s [] false
+    else continued (command mounts s).reply (command mounts s).after (ending through (command mounts s).next) (λ after. frame through mounts n after)
 
 -- what an input line adds to the buffer
 abbrev pub input : List ℕ → List ℕ
 input text = until_zero text ++ 10 ∷ []
 
-unfoldable pub overflowed : List File → State → Ran
-overflowed files s = and_then (plain (codes "overflow\n")) (frame false files 4096 s)
+unfoldable pub overflowed : List Mount → State → Ran
+overflowed mounts s = and_then (plain (codes "overflow\n")) (frame false mounts 4096 s)
 
-unfoldable pub line : List File → State → List ℕ → Ran
-line files s text = if fits_in (input text) s.buffer then frame false files 4096 (record s { buffer = s.buffer ++ input text })
-    else overflowed files s
+unfoldable pub line : List Mount → State → List ℕ → Ran
+line mounts s text = if fits_in (input text) s.buffer then frame false mounts 4096 (record s { buffer = s.buffer ++ input text })
+    else overflowed mounts s
 
-unfoldable pub finish : List File → State → Ran
-finish files s = frame true files 4096 s
+unfoldable pub finish : List Mount → State → Ran
+finish mounts s = frame true mounts 4096 s
 
 abbrev pub texts : List Reply → List ℕ
 texts [] = []
@@ -96,9 +96,9 @@ abbrev pub followed : Ran → (State → Ran) → Ran
 followed ran rest = go_on ran.quit ran (rest ran.after)
 
 -- lines of input, one after another, up to `quit`
-abbrev pub run_lines : List File → State → List (List ℕ) → Ran
-run_lines files s [] = stopped s [] false
-run_lines files s (text ∷ lines) = followed (line files s text) (λ after. run_lines files after lines)
+abbrev pub run_lines : List Mount → State → List (List ℕ) → Ran
+run_lines mounts s [] = stopped s [] false
+run_lines mounts s (text ∷ lines) = followed (line mounts s text) (λ after. run_lines mounts after lines)
 
 -- the whole lines of a text, which end in a newline, and the rest
 pub record Lines : Type 0 where
@@ -119,20 +119,20 @@ lines_of [] = record { whole = []; rest = [] }
 lines_of (byte ∷ bytes) = one_byte (byte == 10) byte (lines_of bytes)
 
 -- a last line without a newline counts where it isn't empty
-abbrev pub last_line : List File → State → List ℕ → Ran
-last_line files s text = if length text == 0 then stopped s [] false else line files s text
+abbrev pub last_line : List Mount → State → List ℕ → Ran
+last_line mounts s text = if length text == 0 then stopped s [] false else line mounts s text
 
 -- the line at the script's end, and the frames after it
-abbrev pub rest_run : List File → State → List ℕ → Ran
-rest_run files s text = followed (last_line files s text) (λ after. finish files after)
+abbrev pub rest_run : List Mount → State → List ℕ → Ran
+rest_run mounts s text = followed (last_line mounts s text) (λ after. finish mounts after)
 
 -- the whole script
-abbrev pub run : List File → State → List ℕ → Ran
-run files s script = followed (run_lines files s (lines_of script).whole) (λ after. rest_run files after (lines_of script).rest)
+abbrev pub run : List Mount → State → List ℕ → Ran
+run mounts s script = followed (run_lines mounts s (lines_of script).whole) (λ after. rest_run mounts after (lines_of script).rest)
 
 -- what a byte runs, behind what is kept of its line
-abbrev pub byte_run : List File → State → List ℕ → ℕ → Ran
-byte_run files s pending byte = if byte == 10 then line files s pending else stopped s [] false
+abbrev pub byte_run : List Mount → State → List ℕ → ℕ → Ran
+byte_run mounts s pending byte = if byte == 10 then line mounts s pending else stopped s [] false
 
 -- what is kept of an unfinished line: its first 8192 bytes, which are more than the buffer holds
 abbrev pub still_pending : List ℕ → ℕ → List ℕ

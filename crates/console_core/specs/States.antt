@@ -1,6 +1,7 @@
 -- The state of a console, and what a command does to it.
-use Rattle.std.specs.Prelude.{◌≡◌, ◌≤◌, ℕ, List, [], Bool, true, false, Option, None, Result, Ok, Err, IfErr}
+use Rattle.std.specs.Prelude.{◌≡◌, ◌<◌, ◌≤◌, ℕ, List, [], length, Bool, true, false, Option, None, Result, Ok, Err, IfErr}
 use Rattle.outside_io.specs.Causes.{Rose}
+use Rattle.search_paths.specs.Counts.{NoneFalls, RoseAt}
 use Rattle.outside_io.specs.Streams.{Adds, AddsFront}
 use Rattle.mem_model.specs.Memory.{Memory, low_used, new_memory}
 use Rattle.cvar_table.specs.Cvars.{Cvar, created, defaults}
@@ -74,7 +75,7 @@ pub record IsDone (did : Did) (answer : Next) (new : State) (start now : Option 
 -- which the command asked for a file, or where the memory ran out that it asked for.
 abbrev pub CutsOff : Reply → Fault → (start now : Option (List ℕ)) → Type 0
 CutsOff reply fault.Write start now = AddsFront reply.text start now
-CutsOff reply fault.Folder start now = (reply.load ≡ true) × (now ≡ start)
+CutsOff reply (fault.Folder folder) start now = (reply.load ≡ true) × (now ≡ start)
 CutsOff reply fault.Memory start now = (reply.takes ≡ true) × (now ≡ start)
 
 -- A call did what a command does, or a fault ended it in its reply.
@@ -87,13 +88,15 @@ abbrev pub Replies : List ℕ → Next → Result Next Fault → (start now : Op
 Replies text next (Ok answer) start now = (answer ≡ next) × Adds text start now
 Replies text next (Err error) start now = (error ≡ fault.Write) × AddsFront text start now
 
-abbrev pub CauseOf : Bool → (folder_before folder_now sink_before sink_now : ℕ) → Fault → Type 0
-CauseOf frugal folder_before folder_now sink_before sink_now fault.Folder = Rose folder_before folder_now
-CauseOf frugal folder_before folder_now sink_before sink_now fault.Write = Rose sink_before sink_now
-CauseOf frugal folder_before folder_now sink_before sink_now fault.Memory = frugal ≡ false
+-- A folder's fault names a folder whose count rose.
+abbrev pub CauseOf : Bool → (faults_before faults_now : List ℕ) → (sink_before sink_now : ℕ) → Fault → Type 0
+CauseOf frugal faults_before faults_now sink_before sink_now (fault.Folder folder) = (folder < length faults_before) × RoseAt folder faults_before faults_now
+CauseOf frugal faults_before faults_now sink_before sink_now fault.Write = Rose sink_before sink_now
+CauseOf frugal faults_before faults_now sink_before sink_now fault.Memory = frugal ≡ false
 
--- each fault has its cause, and no count of faults falls
-pub record HasCauses {A : Type 0} (frugal : Bool) (folder_before folder_now sink_before sink_now : ℕ) (result : Result A Fault) : Type 0 where
-  pub folder_counts : folder_before ≤ folder_now
+-- Each fault has its cause, no count of faults falls, and no folder comes or goes.
+pub record HasCauses {A : Type 0} (frugal : Bool) (faults_before faults_now : List ℕ) (sink_before sink_now : ℕ) (result : Result A Fault) : Type 0 where
+  pub none_falls : NoneFalls faults_before faults_now
+  pub folders : length faults_now ≡ length faults_before
   pub sink_counts : sink_before ≤ sink_now
-  pub cause : IfErr result (λ fault. CauseOf frugal folder_before folder_now sink_before sink_now fault)
+  pub cause : IfErr result (λ fault. CauseOf frugal faults_before faults_now sink_before sink_now fault)

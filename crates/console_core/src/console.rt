@@ -1,19 +1,19 @@
 // What a session keeps, and the commands on it.
-ghost use Rattle.std.specs.Prelude.{◌≡◌, IfOk, OnErr, false};
+ghost use Rattle.std.specs.Prelude.{◌≡◌, ◌<◌, Some, length, slice_get, IfOk, OnErr, false};
 ghost use Rattle.console_core.specs.States.{started, IsNew};
 ghost use Rattle.console_core.specs.Holding.{Holds};
-ghost use Rattle.console_core.specs.Mounts.{folder_of};
+ghost use Rattle.search_paths.specs.Path.{counts_of};
 ghost use Rattle.console_core.specs.Sessions.{state_of};
 
 mod commands;
 mod frames;
 mod values;
 
-use crate::paths::Paths;
 use cmd_buffer::{Aliases, CmdBuffer};
 use cvar_table::Cvars;
 use mem_model::{Store, ZoneError};
 use outside_io::Folder;
+use search_paths::Paths;
 use std::alloc::AllocError;
 
 /// The store and the path, and what a console keeps of its own.
@@ -57,10 +57,11 @@ impl<M: Store, F: Folder> Console<M, F> {
         }
     }
 
-    // The folder of the path.
-    pub fn into_folder(self) -> Option<F>
-        ensures { result ≡ folder_of self.paths }
+    // The folder of this number.
+    pub fn take_folder(self, folder: u32) -> F
+        requires { folder < length (counts_of F.folder_faults self.paths) }
+        ensures { slice_get (self.paths.folders) folder ≡ Some result }
     {
-        self.paths.into_folder()
+        self.paths.take_folder(folder)
     }
 }

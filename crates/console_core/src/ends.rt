@@ -11,7 +11,8 @@ pub enum Next {
 /// What ended a command in its reply.
 #[derive(Clone, Copy, Debug, PartialEq, Eq)]
 pub enum Fault {
-    Folder,
+    /// A call of the folder of this number failed.
+    Folder { folder: u32 },
     Write,
     Memory,
 }

@@ -3,8 +3,7 @@
 
 mod console;
 mod ends;
-mod load;
-mod paths;
+mod opening;
 mod replies;
 mod script;
 mod session;
@@ -13,7 +12,6 @@ mod top;
 mod verbs;
 
 pub use ends::StepEnd;
-pub use paths::{MountError, Paths};
 pub use session::Session;
 pub use status::{Status, exit_code, status_line};
 pub use top::quake_main;

@@ -1,17 +1,22 @@
 // The replies of commands.
-ghost use Rattle.std.specs.Prelude.{◌≡◌, ◌≤◌, ◌++◌, ◌∷◌, [], drop, OnOk, OnErr, IfOk, IfErr, if◌then◌else◌, false, codes, Ok};
-ghost use Rattle.outside_io.specs.Causes.{Rose};
+ghost use Rattle.std.specs.Prelude.{◌≡◌, ◌≤◌, ◌++◌, ◌∷◌, [], drop, OnOk, OnErr, IfOk, IfErr, if◌then◌else◌, false, codes, decimal, Ok};
+ghost use Rattle.outside_io.specs.Causes.{HasCause, Rose};
+ghost use Rattle.search_paths.specs.Path.{rows_of};
 ghost use Rattle.outside_io.specs.Streams.{Adds, AddsFront};
-ghost use Rattle.reply_pieces.specs.Pieces.{text_of, joined};
+ghost use Rattle.reply_pieces.specs.Pieces.{text_of, joined, HoldsBack};
 ghost use Rattle.cmd_buffer.specs.Aliases.{HoldsAliases, alias_texts};
 ghost use Rattle.console_core.specs.States.{Replies};
-ghost use Rattle.console_core.specs.Commands.{block_text, short_text, full_text, spaced, exec_text, cvar_text, alias_lines};
+ghost use Rattle.console_core.specs.Commands.{block_text, short_text, full_text, spaced, exec_text, cvar_text, alias_lines, beyond_text, mount_line, mount_lines};
 
 use crate::ends::{Fault, Next};
 use cmd_buffer::{Aliases, Words};
 use mem_model::{Place, Store};
-use outside_io::Sink;
+use outside_io::{Folder, Sink, SinkFailed};
 use reply_pieces::{Piece, Reply, put_all};
+use search_paths::{MountRow, Paths};
+
+// A path has 65536 folders at most, each with 32 packs at most.
+const MOST_MOUNTS: u32 = 33 * 65536;
 
 // Puts a reply, after which the console goes on like this.
 pub fn reply<O: Sink>(out: &mut O, next: Next, pieces: &[Piece]) -> Result<Next, Fault>
@@ -153,6 +158,141 @@ pub fn put_block<'a, O: Sink>(
             Piece::Text(b"\n"),
         ],
     )
+}
+
+// Shows a loaded file.
+pub fn put_file<O: Sink>(out: &mut O, name: &[u8], size: u64, place: Place) -> Result<Next, Fault>
+    ensures replies { Replies (joined (codes "file " ∷ name.now ∷ codes " " ∷ decimal size ∷ codes " at " ∷ decimal place.0 ∷ codes "\n" ∷ [])) Next.Goes result (O.got out.old) (O.got out.new) }
+    ensures write { OnErr result (Rose (O.sink_faults out.old) (O.sink_faults out.new)) }
+    ensures faults { O.sink_faults out.old ≤ O.sink_faults out.new }
+{
+    reply(
+        out,
+        Next::Goes,
+        &[
+            Piece::Text(b"file "),
+            Piece::Text(name),
+            Piece::Text(b" "),
+            Piece::Number(size),
+            Piece::Text(b" at "),
+            Piece::Number(u64::from(place.0)),
+            Piece::Text(b"\n"),
+        ],
+    )
+}
+
+// Says of a file that there is none.
+pub fn put_missing<'a, O: Sink>(out: &mut O, title: &'a [u8], name: &'a [u8]) -> Result<Next, Fault>
+    ensures replies { Replies (joined (title.now ∷ name.now ∷ codes "\n" ∷ [])) Next.Goes result (O.got out.old) (O.got out.new) }
+    ensures write { OnErr result (Rose (O.sink_faults out.old) (O.sink_faults out.new)) }
+    ensures faults { O.sink_faults out.old ≤ O.sink_faults out.new }
+{
+    reply(
+        out,
+        Next::Goes,
+        &[Piece::Text(title), Piece::Text(name), Piece::Text(b"\n")],
+    )
+}
+
+// Says that a file ends past the end of its pack.
+pub fn put_beyond<O: Sink>(out: &mut O, name: &[u8], end: u64, whole: u64) -> Result<Next, Fault>
+    ensures replies { Replies (beyond_text name.now end whole) Next.Goes result (O.got out.old) (O.got out.new) }
+    ensures write { OnErr result (Rose (O.sink_faults out.old) (O.sink_faults out.new)) }
+    ensures faults { O.sink_faults out.old ≤ O.sink_faults out.new }
+{
+    reply(
+        out,
+        Next::Goes,
+        &[
+            Piece::Text(b"beyond pack: "),
+            Piece::Text(name),
+            Piece::Text(b" ends at "),
+            Piece::Number(end),
+            Piece::Text(b" of "),
+            Piece::Number(whole),
+            Piece::Text(b"\n"),
+        ],
+    )
+}
+
+// Adds the line of a mount.
+fn add_mount<O: Sink>(mount: MountRow, lines: &mut Reply, out: &mut O) -> Result<(), SinkFailed>
+    ensures added { OnOk result (HoldsBack (lines.old ++ mount_line mount) lines.new (O.got out.old) (O.got out.new)) }
+    ensures part { OnErr result (AddsFront (lines.old ++ mount_line mount) (O.got out.old) (O.got out.new)) }
+    ensures cause { HasCause (O.sink_faults out.old) (O.sink_faults out.new) result }
+{
+    match mount {
+        MountRow::Folder { folder } => lines.add_all(
+            &[
+                Piece::Text(b"folder "),
+                Piece::Number(u64::from(folder)),
+                Piece::Text(b"\n"),
+            ],
+            out,
+        ),
+        MountRow::Pack {
+            folder,
+            pack,
+            count,
+        } => lines.add_all(
+            &[
+                Piece::Text(b"pack "),
+                Piece::Number(u64::from(folder)),
+                Piece::Text(b" pak"),
+                Piece::Number(u64::from(pack)),
+                Piece::Text(b".pak "),
+                Piece::Number(u64::from(count)),
+                Piece::Text(b" files\n"),
+            ],
+            out,
+        ),
+    }
+}
+
+// Adds the lines of the mounts, from the front of the path.
+fn add_mounts<F: Folder, O: Sink>(
+    paths: &Paths<F>,
+    lines: &mut Reply,
+    out: &mut O,
+) -> Result<(), SinkFailed>
+    ensures added { OnOk result (HoldsBack (lines.old ++ mount_lines (rows_of paths.now)) lines.new (O.got out.old) (O.got out.new)) }
+    ensures part { OnErr result (AddsFront (lines.old ++ mount_lines (rows_of paths.now)) (O.got out.old) (O.got out.new)) }
+    ensures cause { HasCause (O.sink_faults out.old) (O.sink_faults out.new) result }
+{
+    for number in 0..MOST_MOUNTS {
+        let Some(mount) = paths.row(number) else {
+            return Ok(());
+        };
+        if let Err(failed) = add_mount(mount, lines, out) {
+            return Err(failed);
+        }
+    }
+    Ok(())
+}
+
+// Shows the mounts, from the front of the path.
+pub fn put_mounts<F: Folder, O: Sink>(paths: &Paths<F>, out: &mut O) -> Result<Next, Fault>
+    ensures replies { Replies (mount_lines (rows_of paths.now)) Next.Goes result (O.got out.old) (O.got out.new) }
+    ensures write { OnErr result (Rose (O.sink_faults out.old) (O.sink_faults out.new)) }
+    ensures faults { O.sink_faults out.old ≤ O.sink_faults out.new }
+{
+    let mut lines = Reply::new();
+    if let Err(_) = add_mounts(paths, &mut lines, out) {
+        return Err(Fault::Write);
+    }
+    end_lines(lines, out)
+}
+
+// Puts what is held back of some lines.
+fn end_lines<O: Sink>(lines: Reply, out: &mut O) -> Result<Next, Fault>
+    ensures replies { Replies lines Next.Goes result (O.got out.old) (O.got out.new) }
+    ensures write { OnErr result (Rose (O.sink_faults out.old) (O.sink_faults out.new)) }
+    ensures faults { O.sink_faults out.old ≤ O.sink_faults out.new }
+{
+    match lines.finish(out) {
+        Ok(()) => Ok(Next::Goes),
+        Err(_) => Err(Fault::Write),
+    }
 }
 
 pub fn put_executed<O: Sink>(out: &mut O, name: &[u8], inserted: bool) -> Result<Next, Fault>

@@ -1,9 +1,8 @@
 // The script: it is read in pieces, and the whole lines of what was taken are run before the next read.
 ghost use Rattle.std.specs.Prelude.{◌≡◌, ◌≤◌, ◌++◌, ◌∷◌, IfSome, Ok, [], length, take, false};
 ghost use Rattle.outside_io.specs.Causes.{Rose};
-ghost use Rattle.console_core.specs.Mounts.{told_files, count_of};
 ghost use Rattle.console_core.specs.States.{HasCauses};
-ghost use Rattle.console_core.specs.Sessions.{state_of, told_end};
+ghost use Rattle.console_core.specs.Sessions.{told_end};
 ghost use Rattle.console_core.specs.Runs.{run_lines, lines_of, byte_run, still_pending, last_line, rest_run, line, HasNoNewline, Runs};
 ghost use Rattle.console_core.specs.Reading.{HasRead, ReadsPast, HasReadCauses};
 
@@ -44,7 +43,7 @@ fn told(end: StepEnd) -> Result<bool, Fault>
     match end {
         StepEnd::Went => Ok(false),
         StepEnd::Quit => Ok(true),
-        StepEnd::FolderFault { .. } => Err(Fault::Folder),
+        StepEnd::FolderFault { folder } => Err(Fault::Folder { folder }),
         StepEnd::WriteFault => Err(Fault::Write),
         StepEnd::OutOfMemory => Err(Fault::Memory),
     }
@@ -57,10 +56,10 @@ fn run_line<M: Store, F: Folder, O: Sink>(
     out: &mut O,
 ) -> Result<bool, Fault>
     requires going { session.old.ended ≡ false }
-    ensures told { IfSome (told_files F.files session.old.paths) (λ files. Runs (line files (state_of M.state session.old) text.now) result (state_of M.state session.new) (O.got out.old) (O.got out.new)) }
+    ensures told { IfSome session.old.path.mounts (λ mounts. Runs (line mounts session.old.state text.now) result session.new.state (O.got out.old) (O.got out.new)) }
     ensures going { result ≡ Ok false → session.new.ended ≡ false }
-    ensures files { told_files F.files session.new.paths ≡ told_files F.files session.old.paths }
-    ensures causes { HasCauses M.frugal (count_of F.folder_faults session.old.paths) (count_of F.folder_faults session.new.paths) (O.sink_faults out.old) (O.sink_faults out.new) result }
+    ensures path { session.new.path ≡ session.old.path }
+    ensures causes { HasCauses M.frugal session.old.faults session.new.faults (O.sink_faults out.old) (O.sink_faults out.new) result }
 {
     told(session.step(text, out))
 }
@@ -73,11 +72,11 @@ fn feed_byte<M: Store, F: Folder, O: Sink>(
     out: &mut O,
 ) -> Result<bool, Fault>
     requires going { session.old.ended ≡ false }
-    ensures told { IfSome (told_files F.files session.old.paths) (λ files. Runs (byte_run files (state_of M.state session.old) pending.old.items byte) result (state_of M.state session.new) (O.got out.old) (O.got out.new)) }
+    ensures told { IfSome session.old.path.mounts (λ mounts. Runs (byte_run mounts session.old.state pending.old.items byte) result session.new.state (O.got out.old) (O.got out.new)) }
     ensures rest { result ≡ Ok false → pending.new.items ≡ still_pending pending.old.items byte }
     ensures going { result ≡ Ok false → session.new.ended ≡ false }
-    ensures files { told_files F.files session.new.paths ≡ told_files F.files session.old.paths }
-    ensures causes { HasCauses M.frugal (count_of F.folder_faults session.old.paths) (count_of F.folder_faults session.new.paths) (O.sink_faults out.old) (O.sink_faults out.new) result }
+    ensures path { session.new.path ≡ session.old.path }
+    ensures causes { HasCauses M.frugal session.old.faults session.new.faults (O.sink_faults out.old) (O.sink_faults out.new) result }
 {
     if byte == b'\n' {
         let result = run_line(session, pending.as_slice(), out);
@@ -107,11 +106,11 @@ fn feed<M: Store, F: Folder, O: Sink>(
     requires pending { HasNoNewline pending.old.items }
     requires short { length pending.old.items ≤ 8192 }
     requires going { session.old.ended ≡ false }
-    ensures told { IfSome (told_files F.files session.old.paths) (λ files. Runs (run_lines files (state_of M.state session.old) (lines_of (pending.old.items ++ piece.now)).whole) result (state_of M.state session.new) (O.got out.old) (O.got out.new)) }
+    ensures told { IfSome session.old.path.mounts (λ mounts. Runs (run_lines mounts session.old.state (lines_of (pending.old.items ++ piece.now)).whole) result session.new.state (O.got out.old) (O.got out.new)) }
     ensures rest { result ≡ Ok false → pending.new.items ≡ take 8192 (lines_of (pending.old.items ++ piece.now)).rest }
     ensures going { result ≡ Ok false → session.new.ended ≡ false }
-    ensures files { told_files F.files session.new.paths ≡ told_files F.files session.old.paths }
-    ensures causes { HasCauses M.frugal (count_of F.folder_faults session.old.paths) (count_of F.folder_faults session.new.paths) (O.sink_faults out.old) (O.sink_faults out.new) result }
+    ensures path { session.new.path ≡ session.old.path }
+    ensures causes { HasCauses M.frugal session.old.faults session.new.faults (O.sink_faults out.old) (O.sink_faults out.new) result }
 {
     for byte in piece {
         match feed_byte(session, pending, *byte, out) {
@@ -146,10 +145,10 @@ pub fn run_script<M: Store, F: Folder, S: Source, O: Sink>(
 ) -> ReadEnd
     requires empty { pending.old.items ≡ [] }
     requires going { session.old.ended ≡ false }
-    ensures read { HasRead (told_files F.files session.old.paths) (state_of M.state session.old) (state_of M.state session.new) result pending.new.items (S.rest script.old) (S.rest script.new) (O.got out.old) (O.got out.new) }
+    ensures read { HasRead session.old.path.mounts session.old.state session.new.state result pending.new.items (S.rest script.old) (S.rest script.new) (O.got out.old) (O.got out.new) }
     ensures going { result ≡ ReadEnd.AtEnd → session.new.ended ≡ false }
-    ensures files { told_files F.files session.new.paths ≡ told_files F.files session.old.paths }
-    ensures causes { HasReadCauses M.frugal (count_of F.folder_faults session.old.paths) (count_of F.folder_faults session.new.paths) (O.sink_faults out.old) (O.sink_faults out.new) (S.source_faults script.old) (S.source_faults script.new) result }
+    ensures path { session.new.path ≡ session.old.path }
+    ensures causes { HasReadCauses M.frugal session.old.faults session.new.faults (O.sink_faults out.old) (O.sink_faults out.new) (S.source_faults script.old) (S.source_faults script.new) result }
 {
     let mut piece = [0u8; PIECE];
     let mut left = LIMIT;
@@ -178,10 +177,10 @@ fn run_last<M: Store, F: Folder, O: Sink>(
     out: &mut O,
 ) -> Result<bool, Fault>
     requires going { session.old.ended ≡ false }
-    ensures told { IfSome (told_files F.files session.old.paths) (λ files. Runs (last_line files (state_of M.state session.old) text.now) result (state_of M.state session.new) (O.got out.old) (O.got out.new)) }
+    ensures told { IfSome session.old.path.mounts (λ mounts. Runs (last_line mounts session.old.state text.now) result session.new.state (O.got out.old) (O.got out.new)) }
     ensures going { result ≡ Ok false → session.new.ended ≡ false }
-    ensures files { told_files F.files session.new.paths ≡ told_files F.files session.old.paths }
-    ensures causes { HasCauses M.frugal (count_of F.folder_faults session.old.paths) (count_of F.folder_faults session.new.paths) (O.sink_faults out.old) (O.sink_faults out.new) result }
+    ensures path { session.new.path ≡ session.old.path }
+    ensures causes { HasCauses M.frugal session.old.faults session.new.faults (O.sink_faults out.old) (O.sink_faults out.new) result }
 {
     if text.is_empty() {
         return Ok(false);
@@ -196,9 +195,9 @@ pub fn run_rest<M: Store, F: Folder, O: Sink>(
     out: &mut O,
 ) -> Result<bool, Fault>
     requires going { session.old.ended ≡ false }
-    ensures told { IfSome (told_files F.files session.old.paths) (λ files. Runs (rest_run files (state_of M.state session.old) text.now) result (state_of M.state session.new) (O.got out.old) (O.got out.new)) }
-    ensures files { told_files F.files session.new.paths ≡ told_files F.files session.old.paths }
-    ensures causes { HasCauses M.frugal (count_of F.folder_faults session.old.paths) (count_of F.folder_faults session.new.paths) (O.sink_faults out.old) (O.sink_faults out.new) result }
+    ensures told { IfSome session.old.path.mounts (λ mounts. Runs (rest_run mounts session.old.state text.now) result session.new.state (O.got out.old) (O.got out.new)) }
+    ensures path { session.new.path ≡ session.old.path }
+    ensures causes { HasCauses M.frugal session.old.faults session.new.faults (O.sink_faults out.old) (O.sink_faults out.new) result }
 {
     match run_last(session, text, out) {
         Ok(false) => told(session.finish(out)),

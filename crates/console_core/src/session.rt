@@ -1,16 +1,16 @@
 // A session of the console.
-ghost use Rattle.std.specs.Prelude.{◌≡◌, IfSome, IfOk, OnErr, false, true};
+ghost use Rattle.std.specs.Prelude.{◌≡◌, ◌<◌, Some, length, slice_get, IfSome, IfOk, OnErr, false, true};
 ghost use Rattle.mem_model.specs.Laid.{Laid};
 ghost use Rattle.console_core.specs.States.{started, IsNew, HasCauses};
-ghost use Rattle.console_core.specs.Mounts.{told_files, count_of, folder_of};
-ghost use Rattle.console_core.specs.Sessions.{state_of, told_end, is_end, NamesTheFolder};
+ghost use Rattle.search_paths.specs.Path.{counts_of};
+ghost use Rattle.console_core.specs.Sessions.{path_of, told_end, is_end};
 ghost use Rattle.console_core.specs.Runs.{finish, line, Runs};
 
 use crate::console::Console;
 use crate::ends::{Fault, StepEnd};
-use crate::paths::Paths;
 use mem_model::Store;
 use outside_io::{Folder, Sink};
+use search_paths::Paths;
 use std::alloc::AllocError;
 use std::marker::Model;
 
@@ -22,13 +22,18 @@ pub struct Session<M: Store, F: Folder = Box<dyn Folder>> {
 }
 
 impl<M: Store, F: Folder> Model for Session<M, F> {
-    ghost use Rattle.console_core.specs.declared.console.Console.{Console};
+    ghost use Rattle.search_paths.specs.Path.{counts_of};
     ghost use Rattle.console_core.specs.Holding.{Holds};
-    ghost use Rattle.console_core.specs.Sessions.{state_of};
+    ghost use Rattle.console_core.specs.Sessions.{Seen, path_of, state_of};
 
-    ghost Value = { Console M F };
+    ghost Value = { Seen };
 
-    ghost view = { λ s. s.console };
+    ghost view = { λ s. record {
+      state = state_of M.state s.console;
+      path = path_of F.files s.console.paths;
+      faults = counts_of F.folder_faults s.console.paths;
+      ended = s.console.ended;
+    } };
 
     ghost invariant = { λ s. Holds (state_of M.state s.console) };
 }
@@ -40,8 +45,9 @@ impl<M: Store, F: Folder> Session<M, F> {
     /// only a store that isn't frugal may refuse, for want of memory, and is dropped then with the path.
     pub fn start(store: M, paths: Paths<F>) -> Result<Session<M, F>, AllocError>
         requires new { IsNew (M.state store) }
-        ensures state { IfOk result (λ session. state_of M.state session ≡ started (M.state store)) }
-        ensures paths { IfOk result (λ session. session.paths ≡ paths) }
+        ensures state { IfOk result (λ session. session.state ≡ started (M.state store)) }
+        ensures path { IfOk result (λ session. session.path ≡ path_of F.files paths) }
+        ensures faults { IfOk result (λ session. session.faults ≡ counts_of F.folder_faults paths) }
         ensures going { IfOk result (λ session. session.ended ≡ false) }
         ensures memory { OnErr result (M.frugal ≡ false) }
     {
@@ -58,12 +64,11 @@ impl<M: Store, F: Folder> Session<M, F> {
     /// After a fault the replies before one reply were put, and what the fault left of that one.
     pub fn step<O: Sink>(&mut self, text: &[u8], out: &mut O) -> StepEnd
         requires going { self.old.ended ≡ false }
-        ensures told { IfSome (told_files F.files self.old.paths) (λ files. Runs (line files (state_of M.state self.old) text.now) (told_end result) (state_of M.state self.new) (O.got out.old) (O.got out.new)) }
-        ensures files { told_files F.files self.new.paths ≡ told_files F.files self.old.paths }
-        ensures laid { Laid (M.state self.new.store) }
-        ensures causes { HasCauses M.frugal (count_of F.folder_faults self.old.paths) (count_of F.folder_faults self.new.paths) (O.sink_faults out.old) (O.sink_faults out.new) (told_end result) }
+        ensures told { IfSome self.old.path.mounts (λ mounts. Runs (line mounts self.old.state text.now) (told_end result) self.new.state (O.got out.old) (O.got out.new)) }
+        ensures path { self.new.path ≡ self.old.path }
+        ensures laid { Laid self.new.state.memory }
+        ensures causes { HasCauses M.frugal self.old.faults self.new.faults (O.sink_faults out.old) (O.sink_faults out.new) (told_end result) }
         ensures ended { self.new.ended ≡ is_end result }
-        ensures folder { NamesTheFolder result }
     {
         let end = end_of(self.console.run_line(text, out));
         self.console.ended = ends_run(end);
@@ -74,23 +79,24 @@ impl<M: Store, F: Folder> Session<M, F> {
     /// session must not have ended, and has ended then.
     pub fn finish<O: Sink>(&mut self, out: &mut O) -> StepEnd
         requires going { self.old.ended ≡ false }
-        ensures told { IfSome (told_files F.files self.old.paths) (λ files. Runs (finish files (state_of M.state self.old)) (told_end result) (state_of M.state self.new) (O.got out.old) (O.got out.new)) }
-        ensures files { told_files F.files self.new.paths ≡ told_files F.files self.old.paths }
-        ensures laid { Laid (M.state self.new.store) }
-        ensures causes { HasCauses M.frugal (count_of F.folder_faults self.old.paths) (count_of F.folder_faults self.new.paths) (O.sink_faults out.old) (O.sink_faults out.new) (told_end result) }
+        ensures told { IfSome self.old.path.mounts (λ mounts. Runs (finish mounts self.old.state) (told_end result) self.new.state (O.got out.old) (O.got out.new)) }
+        ensures path { self.new.path ≡ self.old.path }
+        ensures laid { Laid self.new.state.memory }
+        ensures causes { HasCauses M.frugal self.old.faults self.new.faults (O.sink_faults out.old) (O.sink_faults out.new) (told_end result) }
         ensures ended { self.new.ended ≡ true }
-        ensures folder { NamesTheFolder result }
     {
         let end = end_of(self.console.run_frame(true, out));
         self.console.ended = true;
         end
     }
 
-    // The folder of the path.
-    pub(crate) fn into_folder(self) -> Option<F>
-        ensures { result ≡ folder_of self.paths }
+    // The folder of this number.
+    pub(crate) fn take_folder(self, folder: u32) -> F
+        requires { folder < length self.faults }
+        ensures told { slice_get self.path.told folder ≡ Some (F.files result) }
+        ensures faults { slice_get self.faults folder ≡ Some (F.folder_faults result) }
     {
-        self.console.into_folder()
+        self.console.take_folder(folder)
     }
 
     /// Whether the run has ended.
@@ -104,12 +110,11 @@ impl<M: Store, F: Folder> Session<M, F> {
 // How a step ended.
 fn end_of(outcome: Result<bool, Fault>) -> StepEnd
     ensures told { told_end result ≡ outcome }
-    ensures folder { NamesTheFolder result }
 {
     match outcome {
         Ok(false) => StepEnd::Went,
         Ok(true) => StepEnd::Quit,
-        Err(Fault::Folder) => StepEnd::FolderFault { folder: 0 },
+        Err(Fault::Folder { folder }) => StepEnd::FolderFault { folder },
         Err(Fault::Write) => StepEnd::WriteFault,
         Err(Fault::Memory) => StepEnd::OutOfMemory,
     }

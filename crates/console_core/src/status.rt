@@ -1,9 +1,11 @@
 // How a run ends.
-ghost use Rattle.std.specs.Prelude.{◌≡◌, ◌≤◌, length};
-ghost use Rattle.console_core.specs.Ends.{code_of, status_text};
+ghost use Rattle.std.specs.Prelude.{◌≡◌, ◌≤◌, ◌++◌, length};
+ghost use Rattle.console_core.specs.Ends.{code_of, status_text, plain_text, fault_text, bad_pack_text};
 
 use arrayvec::ArrayString;
+use itoa::Buffer;
 use outside_io::Folder;
+use pack_files::PackFault;
 
 /// How a run ended. `quake_main` says what was put and taken then.
 #[derive(Drop)]
@@ -11,15 +13,27 @@ pub enum Status<F: Folder = Box<dyn Folder>> {
     /// The script was read to its end and finished, or `quit` was executed.
     Done,
     /// The number of the first word that breaks the rule, or of words where one is missing.
-    Usage { word: u32 },
+    Usage {
+        word: u32,
+    },
     /// The host had no memory for a block.
     OutOfMemory,
     /// The heap does not hold the zone.
     TooSmall,
+    /// A pack of a folder is no pack that is taken: the first such pack, in the order of mounting. Folders are numbered from 0
+    /// among those that were asked for.
+    BadPack {
+        folder: u32,
+        pack: u32,
+        fault: PackFault,
+    },
     /// A read of the script failed. The lines that ended before it were run.
     ScriptFault,
     /// A call of the folder of this word failed. The folder is handed back with its counts.
-    FolderFault { word: u32, folder: F },
+    FolderFault {
+        word: u32,
+        folder: F,
+    },
     /// A put of a reply failed.
     WriteFault,
     /// The script has more than 1,048,576 bytes. The lines that ended before the byte past these were run.
@@ -35,6 +49,7 @@ pub fn exit_code(status: &Status) -> u8
         Status::Usage { .. } => 1,
         Status::OutOfMemory => 2,
         Status::TooSmall => 3,
+        Status::BadPack { .. } => 4,
         Status::ScriptFault => 5,
         Status::FolderFault { .. } => 6,
         Status::WriteFault => 7,
@@ -42,12 +57,13 @@ pub fn exit_code(status: &Status) -> u8
     }
 }
 
+// The text of a status that has no numbers.
 fn text<F: Folder>(status: &Status<F>) -> &'static str
-    ensures text { result.now ≡ status_text status.now }
+    ensures text { result.now ≡ plain_text status.now }
     ensures short { length result.now ≤ 96 }
 {
     match status {
-        Status::Done => "",
+        Status::Done | Status::BadPack { .. } => "",
         Status::Usage { .. } => {
             "usage: quake_cli [-heapsize KB] [-zone KB] [-speed HZ] folder ..."
         }
@@ -60,9 +76,44 @@ fn text<F: Folder>(status: &Status<F>) -> &'static str
     }
 }
 
+// Why a pack was not taken.
+fn push_fault(line: &mut ArrayString<96>, fault: PackFault)
+    requires room { length line.old.bytes ≤ 64 }
+    ensures { line.new.bytes ≡ line.old.bytes ++ fault_text fault }
+{
+    match fault {
+        PackFault::NotPack => line.push_str("not a pack"),
+        PackFault::TooMany { count } => {
+            line.push_str(Buffer::new().format(count));
+            line.push_str(" entries");
+        }
+        PackFault::DirOutside => line.push_str("directory outside"),
+    }
+}
+
+fn bad_pack_line(folder: u32, pack: u32, fault: PackFault) -> ArrayString<96>
+    ensures { result.bytes ≡ bad_pack_text folder pack fault }
+{
+    let mut line = ArrayString::new();
+    line.push_str("bad pack ");
+    line.push_str(Buffer::new().format(folder));
+    line.push_str(" ");
+    line.push_str(Buffer::new().format(pack));
+    line.push_str(": ");
+    push_fault(&mut line, fault);
+    line
+}
+
 /// The line that tells a user how a run ended, without a newline. It is empty for `Done`.
 pub fn status_line(status: &Status) -> ArrayString<96>
     ensures { result.bytes ≡ status_text status.now }
 {
-    ArrayString::from(text(status)).unwrap()
+    match status {
+        Status::BadPack {
+            folder,
+            pack,
+            fault,
+        } => bad_pack_line(*folder, *pack, *fault),
+        _ => ArrayString::from(text(status)).unwrap(),
+    }
 }

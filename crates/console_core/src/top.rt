@@ -1,13 +1,12 @@
 // The top call.
-ghost use Rattle.std.specs.Prelude.{◌≡◌, ◌↔◌, ◌<◌, ◌≤◌, ◌-◌, ◌^◌, map, string_bytes, vec_len, length, IfSome, IsSomeAnd, Some, None, false};
+ghost use Rattle.std.specs.Prelude.{◌≡◌, ◌↔◌, ◌<◌, ◌≤◌, ◌+◌, ◌-◌, ◌^◌, map, drop, string_bytes, vec_len, length, IfSome, IsSomeAnd, Some, None, false};
 ghost use Rattle.outside_io.specs.Causes.{Rose};
-ghost use Rattle.console_core.specs.Mounts.{told_files, count_of};
-ghost use Rattle.console_core.specs.Sessions.{state_of};
-ghost use Rattle.console_core.specs.Ends.{AsksTooMuch, usage_of, first_state, Ends, HasOwnCause, HandsBack, HasOutcome, IsFaultOf, IsComplete};
+ghost use Rattle.search_paths.specs.Path.{all_some};
+ghost use Rattle.console_core.specs.Ends.{AsksTooMuch, usage_of, first_state, Ends, RunEnds, HasOwnCause, HandsOver, HasOutcome, IsFaultOf, IsAmong, IsComplete};
 ghost use Rattle.command_line.specs.CommandLine.{IsAsked};
 
 use crate::ends::Fault;
-use crate::paths::Paths;
+use crate::opening::mount_all;
 use crate::script::{Pending, ReadEnd, run_rest, run_script};
 use crate::session::Session;
 use crate::status::Status;
@@ -19,67 +18,76 @@ use std::alloc::Global;
 // How many users the cache has.
 const USERS: u32 = 768;
 
-// The status of a run that a fault ended. A folder's fault hands the folder back.
-fn faulted<M: Store, F: Folder>(session: Session<M, F>, word: u32, fault: Fault) -> Status<F>
-    requires mounted { fault ≡ Fault.Folder → 0 < count_of F.folder_faults session.paths }
-    ensures { IsFaultOf fault word F.files F.folder_faults (told_files F.files session.paths) (count_of F.folder_faults session.paths) result }
+// How many folders a command line names at most.
+const MOST_FOLDERS: usize = 8;
+
+// The status of a run that a fault ended, where the first folder's word has this number. A folder's fault hands the folder back.
+fn faulted<M: Store, F: Folder>(session: Session<M, F>, first: u32, fault: Fault) -> Status<F>
+    requires among { IsAmong (length session.faults) fault }
+    requires small { first + length session.faults < 2 ^ 32 }
+    ensures { IsFaultOf fault first F.files F.folder_faults session.path.told session.faults result }
 {
     match fault {
-        Fault::Folder => match session.into_folder() {
-            Some(folder) => Status::FolderFault { word, folder },
-            None => unreachable!(),
+        Fault::Folder { folder } => Status::FolderFault {
+            word: first + folder,
+            folder: session.take_folder(folder),
         },
         Fault::Write => Status::WriteFault,
         Fault::Memory => Status::OutOfMemory,
     }
 }
 
-// Runs a script in a session that was just started.
+// Runs a script in a session that was just started on what is asked for.
 fn run_session<M: Store, F: Folder, S: Source, O: Sink>(
     mut session: Session<M, F>,
-    word: u32,
+    request: Request,
     script: &mut S,
     out: &mut O,
 ) -> Status<F>
     requires going { session.ended ≡ false }
+    requires first { session.state ≡ first_state request }
+    requires folders { length session.faults ≡ length session.path.told }
+    requires small { request.first + length session.faults < 2 ^ 32 }
     ensures usage { usage_of result ≡ None }
     ensures not_small { result ≡ Status.TooSmall → ⊥ }
-    ensures ends { Ends (told_files F.files session.paths) (state_of M.state session) (S.rest script.old) (S.rest script.new) (O.got out.old) (O.got out.new) result }
-    ensures cause { HasOwnCause F.folder_faults (count_of F.folder_faults session.paths) (S.source_faults script.old) (S.source_faults script.new) (O.sink_faults out.old) (O.sink_faults out.new) result }
-    ensures handed_back { HandsBack F.files (told_files F.files session.paths) (Some word) result }
+    ensures ends { RunEnds session.path.mounts request (S.rest script.old) (S.rest script.new) (O.got out.old) (O.got out.new) result }
+    ensures cause { HasOwnCause (S.source_faults script.old) (S.source_faults script.new) (O.sink_faults out.old) (O.sink_faults out.new) result }
+    ensures handed_over { HandsOver request.first F.files F.folder_faults session.path.told session.faults result }
     ensures script_counts { S.source_faults script.old ≤ S.source_faults script.new }
     ensures sink_counts { O.sink_faults out.old ≤ O.sink_faults out.new }
 {
     let mut pending = Pending::new();
+    let first = request.first as u32;
     match run_script(&mut session, script, &mut pending, out) {
         ReadEnd::AtEnd => {}
         ReadEnd::Quit => return Status::Done,
-        ReadEnd::Ended(fault) => return faulted(session, word, fault),
+        ReadEnd::Ended(fault) => return faulted(session, first, fault),
         ReadEnd::Failed => return Status::ScriptFault,
         ReadEnd::TooLong => return Status::ScriptTooLong,
     }
     match run_rest(&mut session, pending.as_slice(), out) {
         Ok(_) => Status::Done,
-        Err(fault) => faulted(session, word, fault),
+        Err(fault) => faulted(session, first, fault),
     }
 }
 
-// Runs a script over a folder, on a heap and a zone of the sizes that are asked for.
-fn run_folder<F: Folder, S: Source, O: Sink>(
+// Runs a script on folders, of which the first has this word's number, on a heap and a zone of the sizes that are asked for.
+fn run_folders<F: Folder, S: Source, O: Sink>(
     alloc: Global,
     request: Request,
-    folder: F,
+    folders: Vec<F>,
     script: &mut S,
     out: &mut O,
 ) -> Status<F>
     requires heap { (1024 ≤ request.heap) × (request.heap ≤ 65536) }
     requires zone { (4 ≤ request.zone) × (request.zone ≤ 65536) }
-    requires word { request.first < 2 ^ 32 }
+    requires small { request.first + vec_len folders < 2 ^ 32 }
+    requires few { vec_len folders ≤ 65536 }
     ensures usage { usage_of result ≡ None }
     ensures too_small { (result ≡ Status.TooSmall) ↔ AsksTooMuch request }
-    ensures ends { Ends (F.files folder) (first_state request) (S.rest script.old) (S.rest script.new) (O.got out.old) (O.got out.new) result }
-    ensures cause { HasOwnCause F.folder_faults (F.folder_faults folder) (S.source_faults script.old) (S.source_faults script.new) (O.sink_faults out.old) (O.sink_faults out.new) result }
-    ensures handed_back { HandsBack F.files (F.files folder) (Some request.first) result }
+    ensures ends { Ends (all_some (map F.files folders.items)) request (S.rest script.old) (S.rest script.new) (O.got out.old) (O.got out.new) result }
+    ensures cause { HasOwnCause (S.source_faults script.old) (S.source_faults script.new) (O.sink_faults out.old) (O.sink_faults out.new) result }
+    ensures handed_over { HandsOver request.first F.files F.folder_faults (map F.files folders.items) (map F.folder_faults folders.items) result }
     ensures script_counts { S.source_faults script.old ≤ S.source_faults script.new }
     ensures sink_counts { O.sink_faults out.old ≤ O.sink_faults out.new }
 {
@@ -88,19 +96,27 @@ fn run_folder<F: Folder, S: Source, O: Sink>(
         Err(StoreStart::TooSmall) => return Status::TooSmall,
         Err(StoreStart::OutOfMemory) => return Status::OutOfMemory,
     };
-    let Ok(mut paths) = Paths::create(alloc) else {
-        return Status::OutOfMemory;
+    let paths = match mount_all(alloc, request.first as u32, folders) {
+        Ok(paths) => paths,
+        Err(status) => return status,
     };
-    if paths.mount(alloc, folder).is_err() {
-        return Status::OutOfMemory;
-    }
     match Session::start(store, paths) {
-        Ok(session) => run_session(session, request.first as u32, script, out),
+        Ok(session) => run_session(session, request, script, out),
         Err(_) => Status::OutOfMemory,
     }
 }
 
-// Runs a script over the folder that the words ask for.
+// The folders of the words from this number on.
+fn from_word<F: Folder>(folders: Vec<F>, first: usize) -> Vec<F>
+    requires { first ≤ vec_len folders }
+    ensures { result.items ≡ drop first folders.items }
+{
+    let mut folders = folders;
+    folders.drain(..first);
+    folders
+}
+
+// Runs a script on the folders that the words ask for.
 fn run<F: Folder, S: Source, O: Sink>(
     alloc: Global,
     words: &[String],
@@ -114,32 +130,34 @@ fn run<F: Folder, S: Source, O: Sink>(
     ensures script_counts { S.source_faults script.old ≤ S.source_faults script.new }
     ensures sink_counts { O.sink_faults out.old ≤ O.sink_faults out.new }
 {
-    let request = match request_of(words, 1) {
+    let request = match request_of(words, MOST_FOLDERS) {
         Ok(request) => request,
         Err(error) => return Status::Usage { word: error.word },
     };
-    let mut folders = folders;
-    let folder = folders.swap_remove(request.first);
-    run_folder(alloc, request, folder, script, out)
+    let folders = from_word(folders, request.first);
+    run_folders(alloc, request, folders, script, out)
 }
 
-/// Runs a script over a folder, and puts the replies to its commands.
+/// Mounts folders, runs a script over them, and puts the replies to its commands.
 ///
-/// The words are the options `-heapsize` and `-zone`, each with a number of KB, at most once and in any order, and then a
-/// folder's word, which isn't empty and doesn't begin with `-`. A heap has 1024 to 65536 KB, and 16384 where none is asked
-/// for; a zone has 4 to 65536, and 48. `Usage` tells the number of the first word that breaks this, or the number of words
-/// where one is missing; `TooSmall` says that the zone's block exceeds the heap. Both come before memory is taken, anything
-/// is read or anything is put. The folder of number i stands for word i; those of the other words are dropped unused. There
-/// must be fewer than 2^32 words.
+/// The words are the options `-heapsize` and `-zone`, each with a number of KB, at most once and in any order, and then the
+/// words of 1 to 8 folders, which aren't empty and don't begin with `-`. A heap has 1024 to 65536 KB, and 16384 where none is
+/// asked for; a zone has 4 to 65536, and 48. `Usage` tells the number of the first word that breaks this, or the number of
+/// words where one is missing; `TooSmall` says that the zone's block exceeds the heap. Both come before memory is taken,
+/// anything is read or anything is put. The folder of number i stands for word i; those of the other words are dropped
+/// unused. There must be fewer than 2^32 words.
+///
+/// The folders are mounted one after another, each with its packs in front of those before, and the first mount with a name
+/// has its file. `BadPack` tells the first pack that is not taken; it comes before the script is read.
 ///
 /// The script is read in pieces of at most 4096 bytes, and every whole line among the bytes taken is run before the next
 /// read; it has at most 1,048,576 bytes, and no piece holds both the last of these and the one after it. A last line
 /// without a newline is a line where it isn't empty. `quit` may leave bytes unread.
 ///
 /// With `Done` the replies of the run over the whole script were put, or those up to `quit`; after `ScriptFault` and
-/// `ScriptTooLong` those over the whole lines before; after `FolderFault` those before one command that asked for a file;
-/// after `WriteFault` those before one reply and a front of that one. `OutOfMemory` comes while the heap is made, before
-/// anything is read, or in a command that asked for memory.
+/// `ScriptTooLong` those over the whole lines before; after `FolderFault` none, where the folder failed while it was mounted,
+/// or those before one command that asked for a file; after `WriteFault` those before one reply and a front of that one.
+/// `OutOfMemory` comes while the heap and the path are made, before the script is read, or in a command that asked for memory.
 pub fn quake_main<S: Source, O: Sink>(
     alloc: Global,
     words: &[String],
@@ -153,8 +171,8 @@ pub fn quake_main<S: Source, O: Sink>(
     ensures script_counts { S.source_faults script.old ≤ S.source_faults script.new }
     ensures sink_counts { O.sink_faults out.old ≤ O.sink_faults out.new }
     ensures too_long { IfSome (S.rest script.old) (λ before. IfSome (S.rest script.new) (λ after. (result ≡ Status.ScriptTooLong) ↔ (1048576 < length before - length after))) }
-    ensures complete { (request : Request) → IsAsked (map string_bytes words.now) 1 request → (AsksTooMuch request → ⊥) → IsSomeAnd (S.rest script.old) (λ bytes. length bytes ≤ 1048576)
-        → (Rose (S.source_faults script.old) (S.source_faults script.new) → ⊥) → (Rose (O.sink_faults out.old) (O.sink_faults out.new) → ⊥) → IsComplete result }
+    ensures complete { (request : Request) → IsAsked (map string_bytes words.now) 8 request → (AsksTooMuch request → ⊥) → IsSomeAnd (S.rest script.old) (λ bytes. length bytes ≤ 1048576)
+        → (Rose (S.source_faults script.old) (S.source_faults script.new) → ⊥) → (Rose (O.sink_faults out.old) (O.sink_faults out.new) → ⊥) → IsComplete (all_some (drop request.first (map files folders.items))) result }
 {
     run(alloc, words, folders, script, out)
 }

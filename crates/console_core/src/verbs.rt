@@ -16,6 +16,7 @@ pub enum Verb {
     Level,
     Report,
     Alias,
+    Path,
 }
 
 // Whether the two are the same but for the case of their letters.
@@ -58,6 +59,9 @@ pub fn find_verb(word: &[u8]) -> Option<Verb>
     }
     if is_same(word, b"alias") {
         return Some(Verb::Alias);
+    }
+    if is_same(word, b"path") {
+        return Some(Verb::Path);
     }
     None
 }

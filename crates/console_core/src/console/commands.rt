@@ -1,26 +1,27 @@
-// The commands that load files, and those that ask for blocks.
+// The commands that load mounts, and those that ask for blocks.
 ghost use Rattle.std.specs.Prelude.{◌≡◌, ◌≤◌, ◌++◌, length, IfSome, IsSomeAnd, take, if◌then◌else◌};
 ghost use Rattle.base_fields.specs.Texts.{until_zero};
 ghost use Rattle.mem_model.specs.Hunk.{low_bytes};
 ghost use Rattle.mem_model.specs.Operations.{low_free};
 ghost use Rattle.console_core.specs.States.{Follows, HasCauses};
 ghost use Rattle.console_core.specs.Holding.{Holds};
-ghost use Rattle.console_core.specs.Mounts.{told_files, count_of};
-ghost use Rattle.console_core.specs.Loads.{load_low};
-ghost use Rattle.console_core.specs.Commands.{answer_echo, answer_file, answer_exec, answer_reserve, answer_video, answer_level, answer_report, of_number_and_name, reserved, video_set, file_named, exec_named, filed, executed, fits_in};
-ghost use Rattle.console_core.specs.Sessions.{state_of};
+ghost use Rattle.search_paths.specs.Path.{counts_of};
+ghost use Rattle.file_load.specs.Loads.{load_low};
+ghost use Rattle.console_core.specs.Commands.{answer_echo, answer_file, answer_exec, answer_reserve, answer_video, answer_level, answer_report, answer_path, of_number_and_name, reserved, video_set, file_named, exec_named, filed, executed, fits_in};
+ghost use Rattle.console_core.specs.Sessions.{path_of, state_of};
 
 use crate::console::Console;
 use crate::console::values::insert;
 use crate::ends::{Fault, Next};
-use crate::load::{LoadError, Loaded, load};
 use crate::replies::{
-    put_bad_name, put_bad_number, put_block, put_echo, put_executed, put_short, reply,
+    put_bad_name, put_bad_number, put_beyond, put_block, put_echo, put_executed, put_file,
+    put_missing, put_mounts, put_short, reply,
 };
 use base_fields::{GameName, before_zero, decimal, game_name};
 use block_report::report;
 use cmd_buffer::Words;
-use mem_model::{RoomError, Store};
+use file_load::{LoadError, load_low};
+use mem_model::{Place, RoomError, Store};
 use outside_io::{Folder, Sink};
 use reply_pieces::Piece;
 
@@ -28,46 +29,29 @@ impl<M: Store, F: Folder> Console<M, F> {
     // Loads a file and shows it.
     fn show_file<O: Sink>(&mut self, name: &GameName, out: &mut O) -> Result<Next, Fault>
         requires holds { Holds (state_of M.state self.old) }
-        ensures told { IfSome (told_files F.files self.old.paths) (λ files. Follows (filed (state_of M.state self.old) name.now (load_low files (M.state self.old.store) name.now)) result (state_of M.state self.new) (O.got out.old) (O.got out.new)) }
-        ensures files { told_files F.files self.new.paths ≡ told_files F.files self.old.paths }
+        ensures told { IfSome (path_of F.files self.old.paths).mounts (λ mounts. Follows (filed (state_of M.state self.old) name.now (load_low mounts (M.state self.old.store) name.now)) result (state_of M.state self.new) (O.got out.old) (O.got out.new)) }
+        ensures path { path_of F.files self.new.paths ≡ path_of F.files self.old.paths }
         ensures holds { Holds (state_of M.state self.new) }
-        ensures causes { HasCauses M.frugal (count_of F.folder_faults self.old.paths) (count_of F.folder_faults self.new.paths) (O.sink_faults out.old) (O.sink_faults out.new) result }
+        ensures causes { HasCauses M.frugal (counts_of F.folder_faults self.old.paths) (counts_of F.folder_faults self.new.paths) (O.sink_faults out.old) (O.sink_faults out.new) result }
     {
-        match load(&mut self.store, &mut self.paths, name) {
-            Ok(loaded) => reply(
-                out,
-                Next::Goes,
-                &[
-                    Piece::Text(b"file "),
-                    Piece::Text(name.bytes()),
-                    Piece::Text(b" "),
-                    Piece::Number(loaded.length),
-                    Piece::Text(b" at "),
-                    Piece::Number(u64::from(loaded.place.0)),
-                    Piece::Text(b"\n"),
-                ],
-            ),
-            Err(LoadError::NotFound) => reply(
-                out,
-                Next::Goes,
-                &[
-                    Piece::Text(b"not found: "),
-                    Piece::Text(name.bytes()),
-                    Piece::Text(b"\n"),
-                ],
-            ),
-            Err(LoadError::NoRoom { asked }) => put_short(out, asked),
-            Err(LoadError::FolderFault) => Err(Fault::Folder),
+        match load_low(&mut self.store, &mut self.paths, name) {
+            Ok((place, size)) => put_file(out, name.bytes(), size, place),
+            Err(LoadError::NotFound) => put_missing(out, b"not found: ", name.bytes()),
+            Err(LoadError::BeyondPack { end, length }) => {
+                put_beyond(out, name.bytes(), end, length)
+            }
+            Err(LoadError::NoRoom { asked, .. }) => put_short(out, asked),
+            Err(LoadError::FolderFault { folder, .. }) => Err(Fault::Folder { folder }),
             Err(LoadError::OutOfMemory) => Err(Fault::Memory),
         }
     }
 
     fn file_named<O: Sink>(&mut self, name: Option<GameName>, out: &mut O) -> Result<Next, Fault>
         requires holds { Holds (state_of M.state self.old) }
-        ensures told { IfSome (told_files F.files self.old.paths) (λ files. Follows (file_named files (state_of M.state self.old) name) result (state_of M.state self.new) (O.got out.old) (O.got out.new)) }
-        ensures files { told_files F.files self.new.paths ≡ told_files F.files self.old.paths }
+        ensures told { IfSome (path_of F.files self.old.paths).mounts (λ mounts. Follows (file_named mounts (state_of M.state self.old) name) result (state_of M.state self.new) (O.got out.old) (O.got out.new)) }
+        ensures path { path_of F.files self.new.paths ≡ path_of F.files self.old.paths }
         ensures holds { Holds (state_of M.state self.new) }
-        ensures causes { HasCauses M.frugal (count_of F.folder_faults self.old.paths) (count_of F.folder_faults self.new.paths) (O.sink_faults out.old) (O.sink_faults out.new) result }
+        ensures causes { HasCauses M.frugal (counts_of F.folder_faults self.old.paths) (counts_of F.folder_faults self.new.paths) (O.sink_faults out.old) (O.sink_faults out.new) result }
     {
         match name {
             Some(name) => self.show_file(&name, out),
@@ -77,20 +61,20 @@ impl<M: Store, F: Folder> Console<M, F> {
 
     pub(super) fn file<O: Sink>(&mut self, words: &Words<'_>, out: &mut O) -> Result<Next, Fault>
         requires holds { Holds (state_of M.state self.old) }
-        ensures told { IfSome (told_files F.files self.old.paths) (λ files. Follows (answer_file files (state_of M.state self.old) words.now) result (state_of M.state self.new) (O.got out.old) (O.got out.new)) }
-        ensures files { told_files F.files self.new.paths ≡ told_files F.files self.old.paths }
+        ensures told { IfSome (path_of F.files self.old.paths).mounts (λ mounts. Follows (answer_file mounts (state_of M.state self.old) words.now) result (state_of M.state self.new) (O.got out.old) (O.got out.new)) }
+        ensures path { path_of F.files self.new.paths ≡ path_of F.files self.old.paths }
         ensures holds { Holds (state_of M.state self.new) }
-        ensures causes { HasCauses M.frugal (count_of F.folder_faults self.old.paths) (count_of F.folder_faults self.new.paths) (O.sink_faults out.old) (O.sink_faults out.new) result }
+        ensures causes { HasCauses M.frugal (counts_of F.folder_faults self.old.paths) (counts_of F.folder_faults self.new.paths) (O.sink_faults out.old) (O.sink_faults out.new) result }
     {
         self.file_named(game_name(words.word(1)).ok(), out)
     }
 
-    // Inserts a loaded file in front of the buffer, and frees what was loaded.
-    fn insert_loaded(&mut self, mark: u32, loaded: Loaded) -> bool
+    // Inserts a loaded file of this size in front of the buffer, and frees what was loaded.
+    fn insert_loaded(&mut self, mark: u32, place: Place, size: u64) -> bool
         requires holds { Holds (state_of M.state self.old) }
-        requires there { IsSomeAnd (low_bytes (M.state self.old.store) loaded.place.0) (λ bytes. loaded.length ≤ length bytes) }
-        ensures buffer { IfSome (low_bytes (M.state self.old.store) loaded.place.0) (λ bytes. self.new.buffer ≡ (if fits_in (until_zero (take loaded.length bytes)) self.old.buffer then until_zero (take loaded.length bytes) ++ self.old.buffer else self.old.buffer)) }
-        ensures fits { IfSome (low_bytes (M.state self.old.store) loaded.place.0) (λ bytes. result ≡ fits_in (until_zero (take loaded.length bytes)) self.old.buffer) }
+        requires there { IsSomeAnd (low_bytes (M.state self.old.store) place.0) (λ bytes. size ≤ length bytes) }
+        ensures buffer { IfSome (low_bytes (M.state self.old.store) place.0) (λ bytes. self.new.buffer ≡ (if fits_in (until_zero (take size bytes)) self.old.buffer then until_zero (take size bytes) ++ self.old.buffer else self.old.buffer)) }
+        ensures fits { IfSome (low_bytes (M.state self.old.store) place.0) (λ bytes. result ≡ fits_in (until_zero (take size bytes)) self.old.buffer) }
         ensures memory { M.state self.new.store ≡ (low_free (M.state self.old.store) mark).after }
         ensures paths { self.new.paths ≡ self.old.paths }
         ensures level { self.new.level ≡ self.old.level }
@@ -98,11 +82,8 @@ impl<M: Store, F: Folder> Console<M, F> {
         ensures aliases { self.new.aliases ≡ self.old.aliases }
         ensures holds { Holds (state_of M.state self.new) }
     {
-        let bytes = self.store.low_bytes(loaded.place);
-        let inserted = insert(
-            &mut self.buffer,
-            before_zero(&bytes[..loaded.length as usize]),
-        );
+        let bytes = self.store.low_bytes(place);
+        let inserted = insert(&mut self.buffer, before_zero(&bytes[..size as usize]));
         let _ = self.store.low_free(mark);
         inserted
     }
@@ -110,38 +91,33 @@ impl<M: Store, F: Folder> Console<M, F> {
     // Loads a file and inserts it.
     fn execute<O: Sink>(&mut self, name: &GameName, out: &mut O) -> Result<Next, Fault>
         requires holds { Holds (state_of M.state self.old) }
-        ensures told { IfSome (told_files F.files self.old.paths) (λ files. Follows (executed (state_of M.state self.old) name.now (load_low files (M.state self.old.store) name.now).after (load_low files (M.state self.old.store) name.now).load) result (state_of M.state self.new) (O.got out.old) (O.got out.new)) }
-        ensures files { told_files F.files self.new.paths ≡ told_files F.files self.old.paths }
+        ensures told { IfSome (path_of F.files self.old.paths).mounts (λ mounts. Follows (executed (state_of M.state self.old) name.now (load_low mounts (M.state self.old.store) name.now).after (load_low mounts (M.state self.old.store) name.now).load) result (state_of M.state self.new) (O.got out.old) (O.got out.new)) }
+        ensures path { path_of F.files self.new.paths ≡ path_of F.files self.old.paths }
         ensures holds { Holds (state_of M.state self.new) }
-        ensures causes { HasCauses M.frugal (count_of F.folder_faults self.old.paths) (count_of F.folder_faults self.new.paths) (O.sink_faults out.old) (O.sink_faults out.new) result }
+        ensures causes { HasCauses M.frugal (counts_of F.folder_faults self.old.paths) (counts_of F.folder_faults self.new.paths) (O.sink_faults out.old) (O.sink_faults out.new) result }
     {
         let mark = self.store.low_mark();
-        match load(&mut self.store, &mut self.paths, name) {
-            Ok(loaded) => {
-                let inserted = self.insert_loaded(mark, loaded);
+        match load_low(&mut self.store, &mut self.paths, name) {
+            Ok((place, size)) => {
+                let inserted = self.insert_loaded(mark, place, size);
                 put_executed(out, name.bytes(), inserted)
             }
-            Err(LoadError::NotFound) => reply(
-                out,
-                Next::Goes,
-                &[
-                    Piece::Text(b"couldn't exec "),
-                    Piece::Text(name.bytes()),
-                    Piece::Text(b"\n"),
-                ],
-            ),
-            Err(LoadError::NoRoom { asked }) => put_short(out, asked),
-            Err(LoadError::FolderFault) => Err(Fault::Folder),
+            Err(LoadError::NotFound) => put_missing(out, b"couldn't exec ", name.bytes()),
+            Err(LoadError::BeyondPack { end, length }) => {
+                put_beyond(out, name.bytes(), end, length)
+            }
+            Err(LoadError::NoRoom { asked, .. }) => put_short(out, asked),
+            Err(LoadError::FolderFault { folder, .. }) => Err(Fault::Folder { folder }),
             Err(LoadError::OutOfMemory) => Err(Fault::Memory),
         }
     }
 
     fn exec_named<O: Sink>(&mut self, name: Option<GameName>, out: &mut O) -> Result<Next, Fault>
         requires holds { Holds (state_of M.state self.old) }
-        ensures told { IfSome (told_files F.files self.old.paths) (λ files. Follows (exec_named files (state_of M.state self.old) name) result (state_of M.state self.new) (O.got out.old) (O.got out.new)) }
-        ensures files { told_files F.files self.new.paths ≡ told_files F.files self.old.paths }
+        ensures told { IfSome (path_of F.files self.old.paths).mounts (λ mounts. Follows (exec_named mounts (state_of M.state self.old) name) result (state_of M.state self.new) (O.got out.old) (O.got out.new)) }
+        ensures path { path_of F.files self.new.paths ≡ path_of F.files self.old.paths }
         ensures holds { Holds (state_of M.state self.new) }
-        ensures causes { HasCauses M.frugal (count_of F.folder_faults self.old.paths) (count_of F.folder_faults self.new.paths) (O.sink_faults out.old) (O.sink_faults out.new) result }
+        ensures causes { HasCauses M.frugal (counts_of F.folder_faults self.old.paths) (counts_of F.folder_faults self.new.paths) (O.sink_faults out.old) (O.sink_faults out.new) result }
     {
         match name {
             Some(name) => self.execute(&name, out),
@@ -151,20 +127,20 @@ impl<M: Store, F: Folder> Console<M, F> {
 
     pub(super) fn exec<O: Sink>(&mut self, words: &Words<'_>, out: &mut O) -> Result<Next, Fault>
         requires holds { Holds (state_of M.state self.old) }
-        ensures told { IfSome (told_files F.files self.old.paths) (λ files. Follows (answer_exec files (state_of M.state self.old) words.now) result (state_of M.state self.new) (O.got out.old) (O.got out.new)) }
-        ensures files { told_files F.files self.new.paths ≡ told_files F.files self.old.paths }
+        ensures told { IfSome (path_of F.files self.old.paths).mounts (λ mounts. Follows (answer_exec mounts (state_of M.state self.old) words.now) result (state_of M.state self.new) (O.got out.old) (O.got out.new)) }
+        ensures path { path_of F.files self.new.paths ≡ path_of F.files self.old.paths }
         ensures holds { Holds (state_of M.state self.new) }
-        ensures causes { HasCauses M.frugal (count_of F.folder_faults self.old.paths) (count_of F.folder_faults self.new.paths) (O.sink_faults out.old) (O.sink_faults out.new) result }
+        ensures causes { HasCauses M.frugal (counts_of F.folder_faults self.old.paths) (counts_of F.folder_faults self.new.paths) (O.sink_faults out.old) (O.sink_faults out.new) result }
     {
         self.exec_named(game_name(words.word(1)).ok(), out)
     }
 
     pub(super) fn echo<O: Sink>(&mut self, words: &Words<'_>, out: &mut O) -> Result<Next, Fault>
         requires holds { Holds (state_of M.state self.old) }
-        ensures told { IfSome (told_files F.files self.old.paths) (λ files. Follows (answer_echo (state_of M.state self.old) words.now) result (state_of M.state self.new) (O.got out.old) (O.got out.new)) }
-        ensures files { told_files F.files self.new.paths ≡ told_files F.files self.old.paths }
+        ensures told { IfSome (path_of F.files self.old.paths).mounts (λ mounts. Follows (answer_echo (state_of M.state self.old) words.now) result (state_of M.state self.new) (O.got out.old) (O.got out.new)) }
+        ensures path { path_of F.files self.new.paths ≡ path_of F.files self.old.paths }
         ensures holds { Holds (state_of M.state self.new) }
-        ensures causes { HasCauses M.frugal (count_of F.folder_faults self.old.paths) (count_of F.folder_faults self.new.paths) (O.sink_faults out.old) (O.sink_faults out.new) result }
+        ensures causes { HasCauses M.frugal (counts_of F.folder_faults self.old.paths) (counts_of F.folder_faults self.new.paths) (O.sink_faults out.old) (O.sink_faults out.new) result }
     {
         put_echo(words, out)
     }
@@ -176,10 +152,10 @@ impl<M: Store, F: Folder> Console<M, F> {
         out: &mut O,
     ) -> Result<Next, Fault>
         requires holds { Holds (state_of M.state self.old) }
-        ensures told { IfSome (told_files F.files self.old.paths) (λ files. Follows (reserved (state_of M.state self.old) size name.now) result (state_of M.state self.new) (O.got out.old) (O.got out.new)) }
-        ensures files { told_files F.files self.new.paths ≡ told_files F.files self.old.paths }
+        ensures told { IfSome (path_of F.files self.old.paths).mounts (λ mounts. Follows (reserved (state_of M.state self.old) size name.now) result (state_of M.state self.new) (O.got out.old) (O.got out.new)) }
+        ensures path { path_of F.files self.new.paths ≡ path_of F.files self.old.paths }
         ensures holds { Holds (state_of M.state self.new) }
-        ensures causes { HasCauses M.frugal (count_of F.folder_faults self.old.paths) (count_of F.folder_faults self.new.paths) (O.sink_faults out.old) (O.sink_faults out.new) result }
+        ensures causes { HasCauses M.frugal (counts_of F.folder_faults self.old.paths) (counts_of F.folder_faults self.new.paths) (O.sink_faults out.old) (O.sink_faults out.new) result }
     {
         match self.store.low_alloc(u64::from(size), name.base()) {
             Ok(place) => put_block(out, b"reserve ", name.bytes(), size, place),
@@ -195,10 +171,10 @@ impl<M: Store, F: Folder> Console<M, F> {
         out: &mut O,
     ) -> Result<Next, Fault>
         requires holds { Holds (state_of M.state self.old) }
-        ensures told { IfSome (told_files F.files self.old.paths) (λ files. Follows (of_number_and_name (state_of M.state self.old) (reserved (state_of M.state self.old)) size name) result (state_of M.state self.new) (O.got out.old) (O.got out.new)) }
-        ensures files { told_files F.files self.new.paths ≡ told_files F.files self.old.paths }
+        ensures told { IfSome (path_of F.files self.old.paths).mounts (λ mounts. Follows (of_number_and_name (state_of M.state self.old) (reserved (state_of M.state self.old)) size name) result (state_of M.state self.new) (O.got out.old) (O.got out.new)) }
+        ensures path { path_of F.files self.new.paths ≡ path_of F.files self.old.paths }
         ensures holds { Holds (state_of M.state self.new) }
-        ensures causes { HasCauses M.frugal (count_of F.folder_faults self.old.paths) (count_of F.folder_faults self.new.paths) (O.sink_faults out.old) (O.sink_faults out.new) result }
+        ensures causes { HasCauses M.frugal (counts_of F.folder_faults self.old.paths) (counts_of F.folder_faults self.new.paths) (O.sink_faults out.old) (O.sink_faults out.new) result }
     {
         match size {
             None => put_bad_number(out),
@@ -211,10 +187,10 @@ impl<M: Store, F: Folder> Console<M, F> {
 
     pub(super) fn reserve<O: Sink>(&mut self, words: &Words<'_>, out: &mut O) -> Result<Next, Fault>
         requires holds { Holds (state_of M.state self.old) }
-        ensures told { IfSome (told_files F.files self.old.paths) (λ files. Follows (answer_reserve (state_of M.state self.old) words.now) result (state_of M.state self.new) (O.got out.old) (O.got out.new)) }
-        ensures files { told_files F.files self.new.paths ≡ told_files F.files self.old.paths }
+        ensures told { IfSome (path_of F.files self.old.paths).mounts (λ mounts. Follows (answer_reserve (state_of M.state self.old) words.now) result (state_of M.state self.new) (O.got out.old) (O.got out.new)) }
+        ensures path { path_of F.files self.new.paths ≡ path_of F.files self.old.paths }
         ensures holds { Holds (state_of M.state self.new) }
-        ensures causes { HasCauses M.frugal (count_of F.folder_faults self.old.paths) (count_of F.folder_faults self.new.paths) (O.sink_faults out.old) (O.sink_faults out.new) result }
+        ensures causes { HasCauses M.frugal (counts_of F.folder_faults self.old.paths) (counts_of F.folder_faults self.new.paths) (O.sink_faults out.old) (O.sink_faults out.new) result }
     {
         self.reserve_named(
             decimal(words.word(1)).ok(),
@@ -231,10 +207,10 @@ impl<M: Store, F: Folder> Console<M, F> {
         out: &mut O,
     ) -> Result<Next, Fault>
         requires holds { Holds (state_of M.state self.old) }
-        ensures told { IfSome (told_files F.files self.old.paths) (λ files. Follows (video_set (state_of M.state self.old) size name.now) result (state_of M.state self.new) (O.got out.old) (O.got out.new)) }
-        ensures files { told_files F.files self.new.paths ≡ told_files F.files self.old.paths }
+        ensures told { IfSome (path_of F.files self.old.paths).mounts (λ mounts. Follows (video_set (state_of M.state self.old) size name.now) result (state_of M.state self.new) (O.got out.old) (O.got out.new)) }
+        ensures path { path_of F.files self.new.paths ≡ path_of F.files self.old.paths }
         ensures holds { Holds (state_of M.state self.new) }
-        ensures causes { HasCauses M.frugal (count_of F.folder_faults self.old.paths) (count_of F.folder_faults self.new.paths) (O.sink_faults out.old) (O.sink_faults out.new) result }
+        ensures causes { HasCauses M.frugal (counts_of F.folder_faults self.old.paths) (counts_of F.folder_faults self.new.paths) (O.sink_faults out.old) (O.sink_faults out.new) result }
     {
         self.store.high_mark();
         let _ = self.store.high_free(0);
@@ -252,10 +228,10 @@ impl<M: Store, F: Folder> Console<M, F> {
         out: &mut O,
     ) -> Result<Next, Fault>
         requires holds { Holds (state_of M.state self.old) }
-        ensures told { IfSome (told_files F.files self.old.paths) (λ files. Follows (of_number_and_name (state_of M.state self.old) (video_set (state_of M.state self.old)) size name) result (state_of M.state self.new) (O.got out.old) (O.got out.new)) }
-        ensures files { told_files F.files self.new.paths ≡ told_files F.files self.old.paths }
+        ensures told { IfSome (path_of F.files self.old.paths).mounts (λ mounts. Follows (of_number_and_name (state_of M.state self.old) (video_set (state_of M.state self.old)) size name) result (state_of M.state self.new) (O.got out.old) (O.got out.new)) }
+        ensures path { path_of F.files self.new.paths ≡ path_of F.files self.old.paths }
         ensures holds { Holds (state_of M.state self.new) }
-        ensures causes { HasCauses M.frugal (count_of F.folder_faults self.old.paths) (count_of F.folder_faults self.new.paths) (O.sink_faults out.old) (O.sink_faults out.new) result }
+        ensures causes { HasCauses M.frugal (counts_of F.folder_faults self.old.paths) (counts_of F.folder_faults self.new.paths) (O.sink_faults out.old) (O.sink_faults out.new) result }
     {
         match size {
             None => put_bad_number(out),
@@ -268,10 +244,10 @@ impl<M: Store, F: Folder> Console<M, F> {
 
     pub(super) fn video<O: Sink>(&mut self, words: &Words<'_>, out: &mut O) -> Result<Next, Fault>
         requires holds { Holds (state_of M.state self.old) }
-        ensures told { IfSome (told_files F.files self.old.paths) (λ files. Follows (answer_video (state_of M.state self.old) words.now) result (state_of M.state self.new) (O.got out.old) (O.got out.new)) }
-        ensures files { told_files F.files self.new.paths ≡ told_files F.files self.old.paths }
+        ensures told { IfSome (path_of F.files self.old.paths).mounts (λ mounts. Follows (answer_video (state_of M.state self.old) words.now) result (state_of M.state self.new) (O.got out.old) (O.got out.new)) }
+        ensures path { path_of F.files self.new.paths ≡ path_of F.files self.old.paths }
         ensures holds { Holds (state_of M.state self.new) }
-        ensures causes { HasCauses M.frugal (count_of F.folder_faults self.old.paths) (count_of F.folder_faults self.new.paths) (O.sink_faults out.old) (O.sink_faults out.new) result }
+        ensures causes { HasCauses M.frugal (counts_of F.folder_faults self.old.paths) (counts_of F.folder_faults self.new.paths) (O.sink_faults out.old) (O.sink_faults out.new) result }
     {
         self.video_named(
             decimal(words.word(1)).ok(),
@@ -283,10 +259,10 @@ impl<M: Store, F: Folder> Console<M, F> {
     // Sets the host level to where the low hunk ends.
     pub(super) fn set_level<O: Sink>(&mut self, out: &mut O) -> Result<Next, Fault>
         requires holds { Holds (state_of M.state self.old) }
-        ensures told { IfSome (told_files F.files self.old.paths) (λ files. Follows (answer_level (state_of M.state self.old)) result (state_of M.state self.new) (O.got out.old) (O.got out.new)) }
-        ensures files { told_files F.files self.new.paths ≡ told_files F.files self.old.paths }
+        ensures told { IfSome (path_of F.files self.old.paths).mounts (λ mounts. Follows (answer_level (state_of M.state self.old)) result (state_of M.state self.new) (O.got out.old) (O.got out.new)) }
+        ensures path { path_of F.files self.new.paths ≡ path_of F.files self.old.paths }
         ensures holds { Holds (state_of M.state self.new) }
-        ensures causes { HasCauses M.frugal (count_of F.folder_faults self.old.paths) (count_of F.folder_faults self.new.paths) (O.sink_faults out.old) (O.sink_faults out.new) result }
+        ensures causes { HasCauses M.frugal (counts_of F.folder_faults self.old.paths) (counts_of F.folder_faults self.new.paths) (O.sink_faults out.old) (O.sink_faults out.new) result }
     {
         self.level = self.store.low_mark();
         reply(
@@ -302,14 +278,24 @@ impl<M: Store, F: Folder> Console<M, F> {
 
     pub(super) fn report_blocks<O: Sink>(&mut self, out: &mut O) -> Result<Next, Fault>
         requires holds { Holds (state_of M.state self.old) }
-        ensures told { IfSome (told_files F.files self.old.paths) (λ files. Follows (answer_report (state_of M.state self.old)) result (state_of M.state self.new) (O.got out.old) (O.got out.new)) }
-        ensures files { told_files F.files self.new.paths ≡ told_files F.files self.old.paths }
+        ensures told { IfSome (path_of F.files self.old.paths).mounts (λ mounts. Follows (answer_report (state_of M.state self.old)) result (state_of M.state self.new) (O.got out.old) (O.got out.new)) }
+        ensures path { path_of F.files self.new.paths ≡ path_of F.files self.old.paths }
         ensures holds { Holds (state_of M.state self.new) }
-        ensures causes { HasCauses M.frugal (count_of F.folder_faults self.old.paths) (count_of F.folder_faults self.new.paths) (O.sink_faults out.old) (O.sink_faults out.new) result }
+        ensures causes { HasCauses M.frugal (counts_of F.folder_faults self.old.paths) (counts_of F.folder_faults self.new.paths) (O.sink_faults out.old) (O.sink_faults out.new) result }
     {
         match report(&self.store, out) {
             Ok(()) => Ok(Next::Goes),
             Err(_) => Err(Fault::Write),
         }
+    }
+
+    pub(super) fn list_path<O: Sink>(&mut self, out: &mut O) -> Result<Next, Fault>
+        requires holds { Holds (state_of M.state self.old) }
+        ensures told { IfSome (path_of F.files self.old.paths).mounts (λ mounts. Follows (answer_path mounts (state_of M.state self.old)) result (state_of M.state self.new) (O.got out.old) (O.got out.new)) }
+        ensures path { path_of F.files self.new.paths ≡ path_of F.files self.old.paths }
+        ensures holds { Holds (state_of M.state self.new) }
+        ensures causes { HasCauses M.frugal (counts_of F.folder_faults self.old.paths) (counts_of F.folder_faults self.new.paths) (O.sink_faults out.old) (O.sink_faults out.new) result }
+    {
+        put_mounts(&self.paths, out)
     }
 }

@@ -4,9 +4,9 @@ ghost use Rattle.cmd_buffer.specs.Buffer.{text_of_command};
 ghost use Rattle.mem_model.specs.Laid.{IsText};
 ghost use Rattle.console_core.specs.States.{Follows, HasCauses};
 ghost use Rattle.console_core.specs.Holding.{Holds, AreShort};
-ghost use Rattle.console_core.specs.Mounts.{told_files, count_of};
+ghost use Rattle.search_paths.specs.Path.{counts_of};
 ghost use Rattle.console_core.specs.Commands.{by_verb, by_words, by_text, command, fits_in};
-ghost use Rattle.console_core.specs.Sessions.{state_of};
+ghost use Rattle.console_core.specs.Sessions.{path_of, state_of};
 ghost use Rattle.console_core.specs.Runs.{frame, line, overflowed, input, ending, Runs};
 
 use crate::console::Console;
@@ -35,10 +35,10 @@ impl<M: Store, F: Folder> Console<M, F> {
     ) -> Result<Next, Fault>
         requires holds { Holds (state_of M.state self.old) }
         requires short { AreShort words.now }
-        ensures told { IfSome (told_files F.files self.old.paths) (λ files. Follows (by_verb files (state_of M.state self.old) words.now verb) result (state_of M.state self.new) (O.got out.old) (O.got out.new)) }
-        ensures files { told_files F.files self.new.paths ≡ told_files F.files self.old.paths }
+        ensures told { IfSome (path_of F.files self.old.paths).mounts (λ mounts. Follows (by_verb mounts (state_of M.state self.old) words.now verb) result (state_of M.state self.new) (O.got out.old) (O.got out.new)) }
+        ensures path { path_of F.files self.new.paths ≡ path_of F.files self.old.paths }
         ensures holds { Holds (state_of M.state self.new) }
-        ensures causes { HasCauses M.frugal (count_of F.folder_faults self.old.paths) (count_of F.folder_faults self.new.paths) (O.sink_faults out.old) (O.sink_faults out.new) result }
+        ensures causes { HasCauses M.frugal (counts_of F.folder_faults self.old.paths) (counts_of F.folder_faults self.new.paths) (O.sink_faults out.old) (O.sink_faults out.new) result }
     {
         match verb {
             None => self.run_name(words, out),
@@ -52,16 +52,17 @@ impl<M: Store, F: Folder> Console<M, F> {
             Some(Verb::Level) => self.set_level(out),
             Some(Verb::Report) => self.report_blocks(out),
             Some(Verb::Alias) => self.alias(words, out),
+            Some(Verb::Path) => self.list_path(out),
         }
     }
 
     fn run_words<O: Sink>(&mut self, words: &Words<'_>, out: &mut O) -> Result<Next, Fault>
         requires holds { Holds (state_of M.state self.old) }
         requires short { AreShort words.now }
-        ensures told { IfSome (told_files F.files self.old.paths) (λ files. Follows (by_words files (state_of M.state self.old) words.now) result (state_of M.state self.new) (O.got out.old) (O.got out.new)) }
-        ensures files { told_files F.files self.new.paths ≡ told_files F.files self.old.paths }
+        ensures told { IfSome (path_of F.files self.old.paths).mounts (λ mounts. Follows (by_words mounts (state_of M.state self.old) words.now) result (state_of M.state self.new) (O.got out.old) (O.got out.new)) }
+        ensures path { path_of F.files self.new.paths ≡ path_of F.files self.old.paths }
         ensures holds { Holds (state_of M.state self.new) }
-        ensures causes { HasCauses M.frugal (count_of F.folder_faults self.old.paths) (count_of F.folder_faults self.new.paths) (O.sink_faults out.old) (O.sink_faults out.new) result }
+        ensures causes { HasCauses M.frugal (counts_of F.folder_faults self.old.paths) (counts_of F.folder_faults self.new.paths) (O.sink_faults out.old) (O.sink_faults out.new) result }
     {
         if words.count() == 0 {
             return Ok(Next::Goes);
@@ -72,10 +73,10 @@ impl<M: Store, F: Folder> Console<M, F> {
     fn run_taken<O: Sink>(&mut self, taken: &Command, out: &mut O) -> Result<Next, Fault>
         requires holds { Holds (state_of M.state self.old) }
         requires text { IfSome (text_of_command taken.now) (λ text. IsText text) }
-        ensures told { IfSome (told_files F.files self.old.paths) (λ files. Follows (by_text files (state_of M.state self.old) (text_of_command taken.now)) result (state_of M.state self.new) (O.got out.old) (O.got out.new)) }
-        ensures files { told_files F.files self.new.paths ≡ told_files F.files self.old.paths }
+        ensures told { IfSome (path_of F.files self.old.paths).mounts (λ mounts. Follows (by_text mounts (state_of M.state self.old) (text_of_command taken.now)) result (state_of M.state self.new) (O.got out.old) (O.got out.new)) }
+        ensures path { path_of F.files self.new.paths ≡ path_of F.files self.old.paths }
         ensures holds { Holds (state_of M.state self.new) }
-        ensures causes { HasCauses M.frugal (count_of F.folder_faults self.old.paths) (count_of F.folder_faults self.new.paths) (O.sink_faults out.old) (O.sink_faults out.new) result }
+        ensures causes { HasCauses M.frugal (counts_of F.folder_faults self.old.paths) (counts_of F.folder_faults self.new.paths) (O.sink_faults out.old) (O.sink_faults out.new) result }
     {
         match taken {
             Command::TooLong => reply(out, Next::Goes, &[Piece::Text(b"line too long\n")]),
@@ -87,10 +88,10 @@ impl<M: Store, F: Folder> Console<M, F> {
     fn run_command<O: Sink>(&mut self, out: &mut O) -> Result<Next, Fault>
         requires some { 0 < length self.old.buffer }
         requires holds { Holds (state_of M.state self.old) }
-        ensures told { IfSome (told_files F.files self.old.paths) (λ files. Follows (command files (state_of M.state self.old)) result (state_of M.state self.new) (O.got out.old) (O.got out.new)) }
-        ensures files { told_files F.files self.new.paths ≡ told_files F.files self.old.paths }
+        ensures told { IfSome (path_of F.files self.old.paths).mounts (λ mounts. Follows (command mounts (state_of M.state self.old)) result (state_of M.state self.new) (O.got out.old) (O.got out.new)) }
+        ensures path { path_of F.files self.new.paths ≡ path_of F.files self.old.paths }
         ensures holds { Holds (state_of M.state self.new) }
-        ensures causes { HasCauses M.frugal (count_of F.folder_faults self.old.paths) (count_of F.folder_faults self.new.paths) (O.sink_faults out.old) (O.sink_faults out.new) result }
+        ensures causes { HasCauses M.frugal (counts_of F.folder_faults self.old.paths) (counts_of F.folder_faults self.new.paths) (O.sink_faults out.old) (O.sink_faults out.new) result }
     {
         match self.buffer.take() {
             Some(taken) => self.run_taken(&taken, out),
@@ -101,10 +102,10 @@ impl<M: Store, F: Folder> Console<M, F> {
     // Takes commands until the buffer is empty, or a command ends the frame. True where `quit` was executed.
     pub fn run_frame<O: Sink>(&mut self, through: bool, out: &mut O) -> Result<bool, Fault>
         requires holds { Holds (state_of M.state self.old) }
-        ensures told { IfSome (told_files F.files self.old.paths) (λ files. Runs (frame through files 4096 (state_of M.state self.old)) result (state_of M.state self.new) (O.got out.old) (O.got out.new)) }
-        ensures files { told_files F.files self.new.paths ≡ told_files F.files self.old.paths }
+        ensures told { IfSome (path_of F.files self.old.paths).mounts (λ mounts. Runs (frame through mounts 4096 (state_of M.state self.old)) result (state_of M.state self.new) (O.got out.old) (O.got out.new)) }
+        ensures path { path_of F.files self.new.paths ≡ path_of F.files self.old.paths }
         ensures holds { Holds (state_of M.state self.new) }
-        ensures causes { HasCauses M.frugal (count_of F.folder_faults self.old.paths) (count_of F.folder_faults self.new.paths) (O.sink_faults out.old) (O.sink_faults out.new) result }
+        ensures causes { HasCauses M.frugal (counts_of F.folder_faults self.old.paths) (counts_of F.folder_faults self.new.paths) (O.sink_faults out.old) (O.sink_faults out.new) result }
     {
         let mut budget = MOST;
         'commands: while 0 < self.buffer.used() {
@@ -127,10 +128,10 @@ impl<M: Store, F: Folder> Console<M, F> {
     // Says that there was no room for a line, and goes on.
     fn run_overflow<O: Sink>(&mut self, out: &mut O) -> Result<bool, Fault>
         requires holds { Holds (state_of M.state self.old) }
-        ensures told { IfSome (told_files F.files self.old.paths) (λ files. Runs (overflowed files (state_of M.state self.old)) result (state_of M.state self.new) (O.got out.old) (O.got out.new)) }
-        ensures files { told_files F.files self.new.paths ≡ told_files F.files self.old.paths }
+        ensures told { IfSome (path_of F.files self.old.paths).mounts (λ mounts. Runs (overflowed mounts (state_of M.state self.old)) result (state_of M.state self.new) (O.got out.old) (O.got out.new)) }
+        ensures path { path_of F.files self.new.paths ≡ path_of F.files self.old.paths }
         ensures holds { Holds (state_of M.state self.new) }
-        ensures causes { HasCauses M.frugal (count_of F.folder_faults self.old.paths) (count_of F.folder_faults self.new.paths) (O.sink_faults out.old) (O.sink_faults out.new) result }
+        ensures causes { HasCauses M.frugal (counts_of F.folder_faults self.old.paths) (counts_of F.folder_faults self.new.paths) (O.sink_faults out.old) (O.sink_faults out.new) result }
     {
         if let Err(_) = out.put(b"overflow\n") {
             return Err(Fault::Write);
@@ -140,10 +141,10 @@ impl<M: Store, F: Folder> Console<M, F> {
 
     pub fn run_line<O: Sink>(&mut self, text: &[u8], out: &mut O) -> Result<bool, Fault>
         requires holds { Holds (state_of M.state self.old) }
-        ensures told { IfSome (told_files F.files self.old.paths) (λ files. Runs (line files (state_of M.state self.old) text.now) result (state_of M.state self.new) (O.got out.old) (O.got out.new)) }
-        ensures files { told_files F.files self.new.paths ≡ told_files F.files self.old.paths }
+        ensures told { IfSome (path_of F.files self.old.paths).mounts (λ mounts. Runs (line mounts (state_of M.state self.old) text.now) result (state_of M.state self.new) (O.got out.old) (O.got out.new)) }
+        ensures path { path_of F.files self.new.paths ≡ path_of F.files self.old.paths }
         ensures holds { Holds (state_of M.state self.new) }
-        ensures causes { HasCauses M.frugal (count_of F.folder_faults self.old.paths) (count_of F.folder_faults self.new.paths) (O.sink_faults out.old) (O.sink_faults out.new) result }
+        ensures causes { HasCauses M.frugal (counts_of F.folder_faults self.old.paths) (counts_of F.folder_faults self.new.paths) (O.sink_faults out.old) (O.sink_faults out.new) result }
     {
         if add_line(&mut self.buffer, text) {
             self.run_frame(false, out)

@@ -3,10 +3,10 @@ ghost use Rattle.std.specs.Prelude.{◌≡◌, ◌++◌, IfSome, drop, if◌then
 ghost use Rattle.mem_model.specs.Laid.{IsText};
 ghost use Rattle.console_core.specs.States.{Follows, HasCauses};
 ghost use Rattle.console_core.specs.Holding.{Holds, AreShort};
-ghost use Rattle.console_core.specs.Mounts.{told_files, count_of};
+ghost use Rattle.search_paths.specs.Path.{counts_of};
 ghost use Rattle.console_core.specs.Commands.{list_aliases, make_alias, answer_alias, cvar_was_set, by_cvar, by_name, unknown, unknown_word, word_at, spaced, fits_in};
 ghost use Rattle.cvar_table.specs.Cvars.{set_cvar, cvar_value};
-ghost use Rattle.console_core.specs.Sessions.{state_of};
+ghost use Rattle.console_core.specs.Sessions.{path_of, state_of};
 
 use crate::console::Console;
 use crate::ends::{Fault, Next};
@@ -48,10 +48,10 @@ impl<M: Store, F: Folder> Console<M, F> {
     // Shows the aliases.
     fn list_aliases<O: Sink>(&mut self, out: &mut O) -> Result<Next, Fault>
         requires holds { Holds (state_of M.state self.old) }
-        ensures told { IfSome (told_files F.files self.old.paths) (λ files. Follows (list_aliases (state_of M.state self.old)) result (state_of M.state self.new) (O.got out.old) (O.got out.new)) }
-        ensures files { told_files F.files self.new.paths ≡ told_files F.files self.old.paths }
+        ensures told { IfSome (path_of F.files self.old.paths).mounts (λ mounts. Follows (list_aliases (state_of M.state self.old)) result (state_of M.state self.new) (O.got out.old) (O.got out.new)) }
+        ensures path { path_of F.files self.new.paths ≡ path_of F.files self.old.paths }
         ensures holds { Holds (state_of M.state self.new) }
-        ensures causes { HasCauses M.frugal (count_of F.folder_faults self.old.paths) (count_of F.folder_faults self.new.paths) (O.sink_faults out.old) (O.sink_faults out.new) result }
+        ensures causes { HasCauses M.frugal (counts_of F.folder_faults self.old.paths) (counts_of F.folder_faults self.new.paths) (O.sink_faults out.old) (O.sink_faults out.new) result }
     {
         put_aliases(&self.store, &self.aliases, out)
     }
@@ -60,10 +60,10 @@ impl<M: Store, F: Folder> Console<M, F> {
     fn make_alias<O: Sink>(&mut self, words: &Words<'_>, out: &mut O) -> Result<Next, Fault>
         requires holds { Holds (state_of M.state self.old) }
         requires short { AreShort words.now }
-        ensures told { IfSome (told_files F.files self.old.paths) (λ files. Follows (make_alias (state_of M.state self.old) words.now) result (state_of M.state self.new) (O.got out.old) (O.got out.new)) }
-        ensures files { told_files F.files self.new.paths ≡ told_files F.files self.old.paths }
+        ensures told { IfSome (path_of F.files self.old.paths).mounts (λ mounts. Follows (make_alias (state_of M.state self.old) words.now) result (state_of M.state self.new) (O.got out.old) (O.got out.new)) }
+        ensures path { path_of F.files self.new.paths ≡ path_of F.files self.old.paths }
         ensures holds { Holds (state_of M.state self.new) }
-        ensures causes { HasCauses M.frugal (count_of F.folder_faults self.old.paths) (count_of F.folder_faults self.new.paths) (O.sink_faults out.old) (O.sink_faults out.new) result }
+        ensures causes { HasCauses M.frugal (counts_of F.folder_faults self.old.paths) (counts_of F.folder_faults self.new.paths) (O.sink_faults out.old) (O.sink_faults out.new) result }
     {
         let value = value_of(words);
         match self
@@ -80,10 +80,10 @@ impl<M: Store, F: Folder> Console<M, F> {
     pub(super) fn alias<O: Sink>(&mut self, words: &Words<'_>, out: &mut O) -> Result<Next, Fault>
         requires holds { Holds (state_of M.state self.old) }
         requires short { AreShort words.now }
-        ensures told { IfSome (told_files F.files self.old.paths) (λ files. Follows (answer_alias (state_of M.state self.old) words.now) result (state_of M.state self.new) (O.got out.old) (O.got out.new)) }
-        ensures files { told_files F.files self.new.paths ≡ told_files F.files self.old.paths }
+        ensures told { IfSome (path_of F.files self.old.paths).mounts (λ mounts. Follows (answer_alias (state_of M.state self.old) words.now) result (state_of M.state self.new) (O.got out.old) (O.got out.new)) }
+        ensures path { path_of F.files self.new.paths ≡ path_of F.files self.old.paths }
         ensures holds { Holds (state_of M.state self.new) }
-        ensures causes { HasCauses M.frugal (count_of F.folder_faults self.old.paths) (count_of F.folder_faults self.new.paths) (O.sink_faults out.old) (O.sink_faults out.new) result }
+        ensures causes { HasCauses M.frugal (counts_of F.folder_faults self.old.paths) (counts_of F.folder_faults self.new.paths) (O.sink_faults out.old) (O.sink_faults out.new) result }
     {
         if words.count() == 1 {
             return self.list_aliases(out);
@@ -95,10 +95,10 @@ impl<M: Store, F: Folder> Console<M, F> {
     fn set_cvar<O: Sink>(&mut self, words: &Words<'_>, out: &mut O) -> Result<Next, Fault>
         requires holds { Holds (state_of M.state self.old) }
         requires short { AreShort words.now }
-        ensures told { IfSome (told_files F.files self.old.paths) (λ files. Follows (cvar_was_set (state_of M.state self.old) (set_cvar (M.state self.old.store) self.old.cvars (word_at 0 words.now) (word_at 1 words.now))) result (state_of M.state self.new) (O.got out.old) (O.got out.new)) }
-        ensures files { told_files F.files self.new.paths ≡ told_files F.files self.old.paths }
+        ensures told { IfSome (path_of F.files self.old.paths).mounts (λ mounts. Follows (cvar_was_set (state_of M.state self.old) (set_cvar (M.state self.old.store) self.old.cvars (word_at 0 words.now) (word_at 1 words.now))) result (state_of M.state self.new) (O.got out.old) (O.got out.new)) }
+        ensures path { path_of F.files self.new.paths ≡ path_of F.files self.old.paths }
         ensures holds { Holds (state_of M.state self.new) }
-        ensures causes { HasCauses M.frugal (count_of F.folder_faults self.old.paths) (count_of F.folder_faults self.new.paths) (O.sink_faults out.old) (O.sink_faults out.new) result }
+        ensures causes { HasCauses M.frugal (counts_of F.folder_faults self.old.paths) (counts_of F.folder_faults self.new.paths) (O.sink_faults out.old) (O.sink_faults out.new) result }
     {
         match self
             .cvars
@@ -114,10 +114,10 @@ impl<M: Store, F: Folder> Console<M, F> {
     fn run_cvar<O: Sink>(&mut self, words: &Words<'_>, out: &mut O) -> Result<Next, Fault>
         requires holds { Holds (state_of M.state self.old) }
         requires short { AreShort words.now }
-        ensures told { IfSome (told_files F.files self.old.paths) (λ files. Follows (by_cvar (state_of M.state self.old) words.now (cvar_value (M.state self.old.store) self.old.cvars (word_at 0 words.now))) result (state_of M.state self.new) (O.got out.old) (O.got out.new)) }
-        ensures files { told_files F.files self.new.paths ≡ told_files F.files self.old.paths }
+        ensures told { IfSome (path_of F.files self.old.paths).mounts (λ mounts. Follows (by_cvar (state_of M.state self.old) words.now (cvar_value (M.state self.old.store) self.old.cvars (word_at 0 words.now))) result (state_of M.state self.new) (O.got out.old) (O.got out.new)) }
+        ensures path { path_of F.files self.new.paths ≡ path_of F.files self.old.paths }
         ensures holds { Holds (state_of M.state self.new) }
-        ensures causes { HasCauses M.frugal (count_of F.folder_faults self.old.paths) (count_of F.folder_faults self.new.paths) (O.sink_faults out.old) (O.sink_faults out.new) result }
+        ensures causes { HasCauses M.frugal (counts_of F.folder_faults self.old.paths) (counts_of F.folder_faults self.new.paths) (O.sink_faults out.old) (O.sink_faults out.new) result }
     {
         match self.cvars.get(&self.store, words.word(0)) {
             None => self.unknown(words, out),
@@ -134,10 +134,10 @@ impl<M: Store, F: Folder> Console<M, F> {
     ) -> Result<Next, Fault>
         requires holds { Holds (state_of M.state self.old) }
         requires short { AreShort words.now }
-        ensures told { IfSome (told_files F.files self.old.paths) (λ files. Follows (by_name (state_of M.state self.old) words.now) result (state_of M.state self.new) (O.got out.old) (O.got out.new)) }
-        ensures files { told_files F.files self.new.paths ≡ told_files F.files self.old.paths }
+        ensures told { IfSome (path_of F.files self.old.paths).mounts (λ mounts. Follows (by_name (state_of M.state self.old) words.now) result (state_of M.state self.new) (O.got out.old) (O.got out.new)) }
+        ensures path { path_of F.files self.new.paths ≡ path_of F.files self.old.paths }
         ensures holds { Holds (state_of M.state self.new) }
-        ensures causes { HasCauses M.frugal (count_of F.folder_faults self.old.paths) (count_of F.folder_faults self.new.paths) (O.sink_faults out.old) (O.sink_faults out.new) result }
+        ensures causes { HasCauses M.frugal (counts_of F.folder_faults self.old.paths) (counts_of F.folder_faults self.new.paths) (O.sink_faults out.old) (O.sink_faults out.new) result }
     {
         match self.aliases.find(&self.store, words.word(0)) {
             Some(value) => {
@@ -150,10 +150,10 @@ impl<M: Store, F: Folder> Console<M, F> {
 
     fn unknown_word<O: Sink>(&mut self, word: &[u8], out: &mut O) -> Result<Next, Fault>
         requires holds { Holds (state_of M.state self.old) }
-        ensures told { IfSome (told_files F.files self.old.paths) (λ files. Follows (unknown_word (state_of M.state self.old) word.now) result (state_of M.state self.new) (O.got out.old) (O.got out.new)) }
-        ensures files { told_files F.files self.new.paths ≡ told_files F.files self.old.paths }
+        ensures told { IfSome (path_of F.files self.old.paths).mounts (λ mounts. Follows (unknown_word (state_of M.state self.old) word.now) result (state_of M.state self.new) (O.got out.old) (O.got out.new)) }
+        ensures path { path_of F.files self.new.paths ≡ path_of F.files self.old.paths }
         ensures holds { Holds (state_of M.state self.new) }
-        ensures causes { HasCauses M.frugal (count_of F.folder_faults self.old.paths) (count_of F.folder_faults self.new.paths) (O.sink_faults out.old) (O.sink_faults out.new) result }
+        ensures causes { HasCauses M.frugal (counts_of F.folder_faults self.old.paths) (counts_of F.folder_faults self.new.paths) (O.sink_faults out.old) (O.sink_faults out.new) result }
     {
         reply(
             out,
@@ -168,10 +168,10 @@ impl<M: Store, F: Folder> Console<M, F> {
 
     fn unknown<O: Sink>(&mut self, words: &Words<'_>, out: &mut O) -> Result<Next, Fault>
         requires holds { Holds (state_of M.state self.old) }
-        ensures told { IfSome (told_files F.files self.old.paths) (λ files. Follows (unknown (state_of M.state self.old) words.now) result (state_of M.state self.new) (O.got out.old) (O.got out.new)) }
-        ensures files { told_files F.files self.new.paths ≡ told_files F.files self.old.paths }
+        ensures told { IfSome (path_of F.files self.old.paths).mounts (λ mounts. Follows (unknown (state_of M.state self.old) words.now) result (state_of M.state self.new) (O.got out.old) (O.got out.new)) }
+        ensures path { path_of F.files self.new.paths ≡ path_of F.files self.old.paths }
         ensures holds { Holds (state_of M.state self.new) }
-        ensures causes { HasCauses M.frugal (count_of F.folder_faults self.old.paths) (count_of F.folder_faults self.new.paths) (O.sink_faults out.old) (O.sink_faults out.new) result }
+        ensures causes { HasCauses M.frugal (counts_of F.folder_faults self.old.paths) (counts_of F.folder_faults self.new.paths) (O.sink_faults out.old) (O.sink_faults out.new) result }
     {
         self.unknown_word(words.word(0), out)
     }

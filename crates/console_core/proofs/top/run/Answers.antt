@@ -1,5 +1,7 @@
-use Rattle.std.proofs.Common.{Ok, Err, refl, ◌<◌, length, arith}
-use Rattle.console_core.proofs.Asking.{told_is, count_is}
+use Rattle.std.proofs.Common.{◌≡◌, ◌+◌, Ok, Err, refl, ◌∙◌, List, length, ap, sym, arith}
+use Rattle.std.specs.Prelude.{map}
+use Rattle.std.proofs.lemmas.List.{drop-map}
+use Rattle.console_core.proofs.Faulting.{hands_back}
 use Rattle.console_core.proofs.top.run.Goals as goal
 
 pub returns-in-Err-clause-outcome : goal.returns-in-Err-clause-outcome
@@ -15,16 +17,14 @@ returns-in-Err-clause-outcome g c = record {
 
 pub returns-clause-outcome : goal.returns-clause-outcome
 returns-clause-outcome g c =
-    let folder = c.swap_remove-folder.result in
-    let inside : c.in-Ok.request.first < length c.args.folders.items = omega (arith, c.in-Ok.ensures.folders, c.in-Ok.ensures.some, c.requires.one_each) in
-    let told = told_is folder g.F.Folder.files c.args.folders.items c.in-Ok.request.first inside c.swap_remove-folder.ensures.value in
-    let count = count_is folder g.F.Folder.folder_faults c.args.folders.items c.in-Ok.request.first inside c.swap_remove-folder.ensures.value in
+    let told = ap (λ (l : List g.row.F.Denot). map g.F.Folder.files l) c.from_word-folders.ensures ∙ sym (drop-map g.F.Folder.files c.in-Ok.request.first c.args.folders.items) in
+    let all : c.in-Ok.request.first + c.in-Ok.request.folders ≡ length c.args.folders.items = omega (arith, c.in-Ok.ensures.folders, c.requires.one_each) in
     record {
       asked = Ok c.in-Ok.request;
       is = (c.in-Ok.ensures.asked c.in-Ok.request).0 refl;
-      usage = c.run_folder.ensures.usage;
-      too_small = c.run_folder.ensures.too_small;
-      ends = rw told c.run_folder.ensures.ends;
-      cause = rw count c.run_folder.ensures.cause;
-      handed_back = rw told c.run_folder.ensures.handed_back;
+      usage = c.run_folders.ensures.usage;
+      too_small = c.run_folders.ensures.too_small;
+      ends = rw told at c.run_folders.ensures.ends;
+      cause = c.run_folders.ensures.cause;
+      handed_back = hands_back g.F.Folder.files g.F.Folder.folder_faults c.args.folders.items c.from_word-folders.result.items c.in-Ok.request c.from_word-folders.ensures c.run_folders.result all c.run_folders.ensures.handed_over;
     }

@@ -1,13 +1,12 @@
 use Rattle.std.proofs.Common.{sym, ◌∙◌}
-use Rattle.console_core.specs.Mounts.{told_files}
 use Rattle.console_core.specs.Commands.{answer_alias, list_aliases}
-use Rattle.console_core.specs.Sessions.{state_of}
-use Rattle.console_core.proofs.Following.{of_files, same_did}
+use Rattle.console_core.specs.Sessions.{path_of, state_of}
+use Rattle.console_core.proofs.Following.{of_told, same_did}
 use Rattle.console_core.proofs.Valuing.{alias_alone}
 use Rattle.console_core.proofs.console.Console.alias.Goals as goal
 
 pub returns-then-count-eq1-clause-told : goal.returns-then-count-eq1-clause-told
 returns-then-count-eq1-clause-told g c =
     let s = state_of g.M.Store.state c.args.self.now in
-    of_files (told_files g.F.Folder.files c.args.self.now.paths) c.list_aliases.ensures.told (λ files follows.
+    of_told (path_of g.F.Folder.files c.args.self.now.paths).mounts c.list_aliases.ensures.told (λ mounts follows.
     same_did (answer_alias s c.args.words.now) (list_aliases s) _ _ _ _ (alias_alone s c.args.words.now (sym c.count.ensures.value ∙ c.if-count-eq1.true)) follows)

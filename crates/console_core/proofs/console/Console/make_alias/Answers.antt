@@ -1,7 +1,6 @@
 use Rattle.std.proofs.Common.{◌∙◌, Err}
-use Rattle.console_core.specs.Mounts.{told_files}
 use Rattle.console_core.specs.Commands.{make_alias, alias_was_set}
-use Rattle.console_core.specs.Sessions.{state_of}
+use Rattle.console_core.specs.Sessions.{path_of, state_of}
 use Rattle.cmd_buffer.specs.Aliases.{set_alias, AliasRefusal.LongName, AliasRefusal.Full}
 use Rattle.console_core.proofs.Following.{always, same_did}
 use Rattle.console_core.proofs.Holding.{holds_aliases}
@@ -26,7 +25,7 @@ returns-in-Err-Zone-OutOfMemory-clause-holds g c = holds_aliases (state_of g.M.S
 pub returns-in-Err-LongName-clause-told : goal.returns-in-Err-LongName-clause-told
 returns-in-Err-LongName-clause-told g c =
     let s = state_of g.M.Store.state c.args.self.now in
-    always (told_files g.F.Folder.files c.args.self.now.paths) (λ files.
+    always (path_of g.F.Folder.files c.args.self.now.paths).mounts (λ mounts.
     same_did (make_alias s c.args.words.now) (alias_was_set s (set_alias s.memory s.newest c.word.result.now c.as_slice.result.now)) _ _ _ _
     (alias_of_words s c.args.words.now c.word.result.now c.as_slice.result.now c.word.ensures (c.as_slice.ensures.value ∙ c.value_of-value.ensures))
     (follow_alias s _ _ _ (set_alias s.memory s.newest c.word.result.now c.as_slice.result.now) (Err LongName) (g.M.Store.state c.set.new.store) c.set.new.self
@@ -35,7 +34,7 @@ returns-in-Err-LongName-clause-told g c =
 pub returns-in-Err-Zone-Full-clause-told : goal.returns-in-Err-Zone-Full-clause-told
 returns-in-Err-Zone-Full-clause-told g c =
     let s = state_of g.M.Store.state c.args.self.now in
-    always (told_files g.F.Folder.files c.args.self.now.paths) (λ files.
+    always (path_of g.F.Folder.files c.args.self.now.paths).mounts (λ mounts.
     same_did (make_alias s c.args.words.now) (alias_was_set s (set_alias s.memory s.newest c.word.result.now c.as_slice.result.now)) _ _ _ _
     (alias_of_words s c.args.words.now c.word.result.now c.as_slice.result.now c.word.ensures (c.as_slice.ensures.value ∙ c.value_of-value.ensures))
     (follow_alias s _ _ _ (set_alias s.memory s.newest c.word.result.now c.as_slice.result.now) (Err (Full c.in-Err-Zone-Full.asked)) (g.M.Store.state c.set.new.store) c.set.new.self

@@ -1,16 +1,15 @@
 use Rattle.cmd_buffer.specs.Buffer.{text_of_command, cut}
-use Rattle.console_core.specs.Mounts.{told_files}
 use Rattle.console_core.specs.Commands.{command}
-use Rattle.console_core.specs.Sessions.{state_of}
-use Rattle.console_core.proofs.Following.{of_files, same_did, command_is}
+use Rattle.console_core.specs.Sessions.{path_of, state_of}
+use Rattle.console_core.proofs.Following.{of_told, same_did, command_is}
 use Rattle.console_core.proofs.Holding.{holds_buffer}
 use Rattle.console_core.proofs.Taking.{cut_rest, taken_text}
 use Rattle.console_core.proofs.console.Console.run_command.Goals as goal
 
 pub returns-in-Some-clause-told : goal.returns-in-Some-clause-told
-returns-in-Some-clause-told g c = of_files (told_files g.F.Folder.files c.args.self.now.paths) c.run_taken.ensures.told (λ files follows.
-    same_did (command files (state_of g.M.Store.state c.args.self.now)) _ _ _ _ _
-    (command_is files (state_of g.M.Store.state c.args.self.now) (text_of_command c.in-Some.taken) _ c.requires.some c.in-Some.ensures.command c.in-Some.ensures.rest) follows)
+returns-in-Some-clause-told g c = of_told (path_of g.F.Folder.files c.args.self.now.paths).mounts c.run_taken.ensures.told (λ mounts follows.
+    same_did (command mounts (state_of g.M.Store.state c.args.self.now)) _ _ _ _ _
+    (command_is mounts (state_of g.M.Store.state c.args.self.now) (text_of_command c.in-Some.taken) _ c.requires.some c.in-Some.ensures.command c.in-Some.ensures.rest) follows)
 
 pub run_taken-requires-clause-holds : goal.run_taken-requires-clause-holds
 run_taken-requires-clause-holds g c =

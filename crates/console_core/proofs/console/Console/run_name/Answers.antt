@@ -1,7 +1,6 @@
 use Rattle.std.proofs.Common.{ap, sym, ◌∙◌}
-use Rattle.console_core.specs.Mounts.{told_files}
 use Rattle.console_core.specs.Commands.{by_name, by_alias, answer_expansion}
-use Rattle.console_core.specs.Sessions.{state_of}
+use Rattle.console_core.specs.Sessions.{path_of, state_of}
 use Rattle.cmd_buffer.specs.Aliases.{alias_value}
 use Rattle.console_core.proofs.Following.{always, same_did}
 use Rattle.console_core.proofs.Holding.{holds_buffer}
@@ -11,7 +10,7 @@ use Rattle.console_core.proofs.console.Console.run_name.Goals as goal
 pub returns-in-Some-clause-told : goal.returns-in-Some-clause-told
 returns-in-Some-clause-told g c =
     let s = state_of g.M.Store.state c.args.self.now in
-    always (told_files g.F.Folder.files c.args.self.now.paths) (λ files.
+    always (path_of g.F.Folder.files c.args.self.now.paths).mounts (λ mounts.
     same_did (by_name s c.args.words.now) (answer_expansion s c.in-Some.value.now) _ _ _ _
     (ap (by_alias s c.args.words.now) (ap (alias_value s.memory s.newest) (sym c.word.ensures) ∙ c.in-Some.ensures.value))
     (follow_expansion s _ _ _ c.in-Some.value.now c.insert-inserted.new.buffer c.insert-inserted.result c.insert-inserted.ensures.fits c.insert-inserted.ensures.buffer c.put_inserted.ensures.replies))

@@ -1,12 +1,11 @@
-use Rattle.console_core.specs.Mounts.{told_files}
-use Rattle.console_core.specs.Sessions.{state_of}
-use Rattle.console_core.proofs.Following.{of_files, always}
+use Rattle.console_core.specs.Sessions.{path_of, state_of}
+use Rattle.console_core.proofs.Following.{of_told, always}
 use Rattle.console_core.proofs.Lining.{overflow_cut, overflow_runs}
 use Rattle.console_core.proofs.console.Console.run_overflow.Goals as goal
 
 pub returns-in-Err-clause-told : goal.returns-in-Err-clause-told
-returns-in-Err-clause-told g c = always (told_files g.F.Folder.files c.args.self.now.paths) (λ files. overflow_cut files (state_of g.M.Store.state c.args.self.now) (state_of g.M.Store.state c.args.self.now) _ _ c.in-Err.ensures.part)
+returns-in-Err-clause-told g c = always (path_of g.F.Folder.files c.args.self.now.paths).mounts (λ mounts. overflow_cut mounts (state_of g.M.Store.state c.args.self.now) (state_of g.M.Store.state c.args.self.now) _ _ c.in-Err.ensures.part)
 
 pub returns-clause-told : goal.returns-clause-told
-returns-clause-told g c = of_files (told_files g.F.Folder.files c.args.self.now.paths) c.run_frame.ensures.told (λ files runs.
-    overflow_runs files (state_of g.M.Store.state c.args.self.now) (state_of g.M.Store.state c.run_frame.new.self) _ _ _ _ c.in_default.ensures.added runs)
+returns-clause-told g c = of_told (path_of g.F.Folder.files c.args.self.now.paths).mounts c.run_frame.ensures.told (λ mounts runs.
+    overflow_runs mounts (state_of g.M.Store.state c.args.self.now) (state_of g.M.Store.state c.run_frame.new.self) _ _ _ _ c.in_default.ensures.added runs)

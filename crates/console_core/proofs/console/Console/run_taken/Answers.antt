@@ -3,10 +3,9 @@ use Rattle.std.specs.Prelude.{codes}
 use Rattle.reply_pieces.specs.Pieces.{joined}
 use Rattle.cmd_buffer.specs.Buffer.{text_of_command}
 use Rattle.cmd_buffer.specs.declared.buffer.Command.{Command}
-use Rattle.console_core.specs.Mounts.{told_files}
 use Rattle.console_core.specs.States.{says}
 use Rattle.console_core.specs.Commands.{by_text}
-use Rattle.console_core.specs.Sessions.{state_of}
+use Rattle.console_core.specs.Sessions.{path_of, state_of}
 use Rattle.console_core.specs.declared.ends.Next.TheVariants.{Goes}
 use Rattle.console_core.proofs.Following.{always, same_did, follow}
 use Rattle.console_core.proofs.console.Console.run_taken.Goals as goal
@@ -14,7 +13,7 @@ use Rattle.console_core.proofs.console.Console.run_taken.Goals as goal
 pub returns-in-TooLong-clause-told : goal.returns-in-TooLong-clause-told
 returns-in-TooLong-clause-told g c =
     let s = state_of g.M.Store.state c.args.self.now in
-    always (told_files g.F.Folder.files c.args.self.now.paths) (λ files.
-    same_did (by_text files s (text_of_command c.args.taken.now)) (says s Goes (joined (codes "line too long\n" ∷ []))) _ _ _ _
-    (ap (λ (taken : Command). by_text files s (text_of_command taken)) c.in-TooLong.is)
+    always (path_of g.F.Folder.files c.args.self.now.paths).mounts (λ mounts.
+    same_did (by_text mounts s (text_of_command c.args.taken.now)) (says s Goes (joined (codes "line too long\n" ∷ []))) _ _ _ _
+    (ap (λ (taken : Command). by_text mounts s (text_of_command taken)) c.in-TooLong.is)
     (follow (says s Goes (joined (codes "line too long\n" ∷ []))) (joined (codes "line too long\n" ∷ [])) Goes _ _ _ _ refl refl refl c.reply.ensures.replies))

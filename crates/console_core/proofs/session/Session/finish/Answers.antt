@@ -1,9 +1,8 @@
-use Rattle.std.proofs.Common.{sym, subst, true}
-use Rattle.console_core.specs.Mounts.{told_files}
+use Rattle.std.proofs.Common.{sym, subst, true, IfSome}
 use Rattle.console_core.specs.Runs.{finish, frame, Runs}
-use Rattle.console_core.specs.Sessions.{state_of}
+use Rattle.console_core.specs.Sessions.{Seen, path_of, state_of, told_end}
 use Rattle.console_core.specs.declared.console.Console.{Console}
-use Rattle.console_core.proofs.Following.{of_files}
+use Rattle.console_core.proofs.Following.{of_told}
 use Rattle.console_core.proofs.session.Session.finish.Goals as goal
 
 pub returns-clause-told : goal.returns-clause-told
@@ -11,6 +10,7 @@ unfolding finish
 returns-clause-told g c =
     let state = state_of g.M.Store.state in
     let before : Console g.row.M.Denot g.row.F.Denot = c.self.inside.console in
-    let runs = of_files (told_files g.F.Folder.files before.paths) c.run_frame.ensures.told (λ files runs.
-    subst (λ r. Runs (frame true files 4096 (state before)) r (state c.run_frame.new.self) (g.O.Sink.got c.args.out.now) (g.O.Sink.got c.run_frame.new.out)) (sym c.end_of-end.ensures.told) runs) in
-    rw c.self.view_is at runs
+    let runs = of_told (path_of g.F.Folder.files before.paths).mounts c.run_frame.ensures.told (λ mounts runs.
+    subst (λ r. Runs (frame true mounts 4096 (state before)) r (state c.run_frame.new.self) (g.O.Sink.got c.args.out.now) (g.O.Sink.got c.run_frame.new.out)) (sym c.end_of-end.ensures.told) runs) in
+    let by_session : Seen → Type 0 = λ (s : Seen). IfSome s.path.mounts (λ mounts. Runs (frame true mounts 4096 s.state) (told_end c.end_of-end.result) (state c.run_frame.new.self) (g.O.Sink.got c.args.out.now) (g.O.Sink.got c.run_frame.new.out)) in
+    subst by_session c.self.view_is runs
