@@ -65,6 +65,9 @@ aliases_still m n newest keeps h =
 pub holds_none : (m : Memory) → HoldsAliases m None
 holds_none m = (aliases_are m None [] refl (record { used = tt; apart = tt })).0
 
+pub holds_created : (m : Memory) (newest : Option ℕ) → newest ≡ None → HoldsAliases m newest
+holds_created m newest none = subst (HoldsAliases m) (sym none) (holds_none m)
+
 pub aliases_none : (m : Memory) → aliases_of m None ≡ []
 aliases_none m = (aliases_are m None [] refl (record { used = tt; apart = tt })).1
 

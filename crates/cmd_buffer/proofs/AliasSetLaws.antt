@@ -1,5 +1,5 @@
 -- Laws of setting an alias, over the definitions alone: what it means to those who use aliases.
-use Rattle.std.proofs.Common.{◌≡◌, ℕ, ◌+◌, ◌<◌, ◌≤◌, List, [], ◌∷◌, length, map, find, Bool, true, false, ◌||◌, cond, Option, Some, None, Result, Ok, Err, ◌⊎◌, inl, inr, refl, sym, ap, ◌∙◌, subst, arith, bytes_eq}
+use Rattle.std.proofs.Common.{◌≡◌, ℕ, ◌+◌, ◌<◌, ◌≤◌, List, [], ◌∷◌, length, map, find, Bool, true, false, ◌||◌, cond, Option, Some, None, Result, Ok, Err, ◌⊎◌, inl, inr, refl, sym, ap, ◌∙◌, subst, bytes_eq}
 use Rattle.std.specs.Prelude.{is_some, IsSome}
 use Rattle.std.specs.List.{list_any}
 use Rattle.std.specs.Option.{option_map, option_and_then, unwrap_or}
@@ -12,7 +12,7 @@ use Rattle.mem_model.specs.Laid.{Laid, IsText}
 use Rattle.mem_model.specs.Places.{zone_need}
 use Rattle.mem_model.specs.Zone.{zone_bytes}
 use Rattle.mem_model.specs.Apart.{AreUsed}
-use Rattle.mem_model.specs.Operations.{z_alloc, z_free}
+use Rattle.mem_model.specs.Operations.{z_alloc}
 use Rattle.mem_model.proofs.Untouched.{zone_bytes-same}
 use Rattle.mem_model.proofs.ZoneLaying.{Laid-z_alloc, Laid-z_free, Laid-with_zone_bytes}
 use Rattle.mem_model.proofs.ZoneLaws.{zone_bytes-z_alloc, z_alloc-refusal}

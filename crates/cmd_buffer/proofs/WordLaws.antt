@@ -118,3 +118,6 @@ words_few text = few_words 80 text
 pub words_sized : (text : List ℕ) → letters_in (words_of text) ≤ length text
 unfolding words_of
 words_sized text = sized_first 80 text
+
+-- for callers: `#[tactic(auto, using(cmd_buffer::proofs::WordLaws::word_laws))]`
+pub ruleset word_laws = (words_texts, words_few, words_sized)

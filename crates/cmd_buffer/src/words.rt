@@ -36,7 +36,7 @@ struct Found<'a> {
 /// Bytes up to 32 separate words. Each of `{ } ( ) ' :` is a word by itself, and ends a word before it.
 /// Where a word would begin, `"` opens one that runs to the next `"` or the end, and may be empty, and
 /// `//` ends the text. Any other byte belongs to a word, those from 128 on and a `"` within it included.
-#[tactic(auto, using(crate::proofs::WordLaws::words_texts, crate::proofs::WordLaws::words_few, crate::proofs::WordLaws::words_sized))]
+#[tactic(auto, using(crate::proofs::WordLaws::word_laws))]
 pub fn tokenize(text: &[u8]) -> Words<'_>
     ensures words { result ≡ words_of text.now }
     ensures texts { IsText text.now → AllByRecursion IsText result }

@@ -10,8 +10,8 @@ use Rattle.search_paths.specs.Counts.{NoneFalls}
 use Rattle.search_paths.specs.Mounts.{Mount, mounted, BadPack as BadPackOf}
 use Rattle.command_line.specs.declared.words.Request.{Request}
 use Rattle.console_core.specs.Ends.{first_state, IsCutAt, RunEnds, OnPath, HandsOver, HandsBack, IsFailedFolder, IsFaultOf}
-use Rattle.console_core.specs.declared.ends.Fault.{Fault}
-use Rattle.console_core.specs.declared.ends.Fault.TheVariants as fault
+use Rattle.console_session.specs.declared.ends.Fault.{Fault}
+use Rattle.console_session.specs.declared.ends.Fault.TheVariants as fault
 use Rattle.console_core.specs.declared.status.Status.{Status}
 use Rattle.console_core.specs.declared.status.Status.TheVariants.{Done, Usage, OutOfMemory, TooSmall, BadPack, ScriptFault, FolderFault, WriteFault, ScriptTooLong}
 

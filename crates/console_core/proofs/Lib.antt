@@ -1,13 +1,3 @@
-pub mod Causing
-pub mod Executing
-pub mod Following
-pub mod Holding
-pub mod Listing
-pub mod Mounting
-pub mod Valuing
-pub mod Taking
-pub mod Framing
-pub mod Lining
 pub mod Shortening
 pub mod Scripts
 pub mod Whole

@@ -13,6 +13,7 @@ use Rattle.search_paths.specs.declared.answers.MountError.{MountError}
 use Rattle.search_paths.specs.declared.answers.MountError.TheVariants as error
 use Rattle.search_paths.proofs.FindLaws.{each_is_there}
 use Rattle.search_paths.proofs.MountLaws.{with_folders-append, mounts-mounted}
+use Rattle.console_session.proofs.Following.{if_some, at_some}
 use Rattle.console_core.specs.Ends.{IsPathOf, IsOpened, IsUnopened, OpeningEnds, HandsOver}
 use Rattle.console_core.specs.declared.status.Status.{Status}
 use Rattle.console_core.specs.declared.status.Status.TheVariants.{FolderFault, TooSmall}
@@ -52,13 +53,6 @@ head_of {X} (Some x) os all is = by (all_some os) refl is
     by : (rest : Option (List X)) → all_some os ≡ rest → option_map (λ rest. x ∷ rest) rest ≡ Some all → Head (Some x) os all
     by None known same = cc
     by (Some rest) known same = let here : x ∷ rest ≡ all = cc (same) in record { one = x; rest = rest; there = refl; back = known; is = sym here }
-
-pub if_some : {X : Type 0} {P : X → Type 0} (o : Option X) → ((x : X) → o ≡ Some x → P x) → IfSome o P
-if_some None each = tt
-if_some (Some x) each = each x refl
-
-pub at_some : {X : Type 0} (P : X → Type 0) (o : Option X) (x : X) → o ≡ Some x → IfSome o P → P x
-at_some {X} P o x is known = let here : IfSome (Some x) P = subst (λ (given : Option X). IfSome given P) is known in here
 
 -- one more count
 falls_push : (xs ys : List ℕ) (a b : ℕ) → length xs ≡ length ys → NoneFalls xs ys → a ≤ b → NoneFalls (xs ++ a ∷ []) (ys ++ b ∷ [])

@@ -7,10 +7,11 @@ use Rattle.std.proofs.lemmas.Bool.Decides.{eqb_tells}
 use Rattle.search_paths.specs.Mounts.{Mount}
 use Rattle.outside_io.specs.Streams.{Adds, Took}
 use Rattle.outside_io.proofs.Puts.{adds_none, adds_both}
-use Rattle.console_core.specs.States.{State, Reply}
-use Rattle.console_core.specs.Runs.{Ran, stopped, line, texts, IsRun, IsCutShort, Runs, joined_runs, go_on, followed, run_lines, byte_run, still_pending, HasNoNewline, Lines, begun, one_byte, lines_of}
-use Rattle.console_core.specs.declared.ends.Fault.{Fault}
-use Rattle.console_core.proofs.Framing.{texts-append}
+use Rattle.console_session.specs.States.{State, Reply}
+use Rattle.console_session.specs.Frames.{Ran, stopped, line, texts, IsRun, IsCutShort, Runs}
+use Rattle.console_core.specs.Runs.{joined_runs, go_on, followed, run_lines, byte_run, still_pending, HasNoNewline, Lines, begun, one_byte, lines_of}
+use Rattle.console_session.specs.declared.ends.Fault.{Fault}
+use Rattle.console_session.proofs.Framing.{texts-append}
 use Rattle.console_core.proofs.Shortening.{take_front, line_short, line_front}
 
 -- a byte more, at the end

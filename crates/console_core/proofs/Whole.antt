@@ -4,9 +4,10 @@ use Rattle.std.proofs.lemmas.List.{append-nil}
 use Rattle.std.proofs.lemmas.Bool.{ne_eqb}
 use Rattle.search_paths.specs.Mounts.{Mount}
 use Rattle.outside_io.specs.Streams.{Adds, Took}
-use Rattle.console_core.specs.States.{State}
-use Rattle.console_core.specs.Runs.{Ran, line, texts, IsRun, IsCutShort, Runs, followed, run_lines, lines_of, last_line, rest_run, finish, run}
-use Rattle.console_core.specs.declared.ends.Fault.{Fault}
+use Rattle.console_session.specs.States.{State}
+use Rattle.console_session.specs.Frames.{Ran, line, texts, IsRun, IsCutShort, Runs, finish}
+use Rattle.console_core.specs.Runs.{followed, run_lines, lines_of, last_line, rest_run, run}
+use Rattle.console_session.specs.declared.ends.Fault.{Fault}
 use Rattle.console_core.proofs.Scripts.{lines_later, run_append, both_run, quit_run, cut_run}
 use Rattle.console_core.proofs.Shortening.{line_short}
 

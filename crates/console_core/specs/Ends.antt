@@ -7,8 +7,9 @@ use Rattle.command_line.specs.CommandLine.{IsAsked, IsFirstBad}
 use Rattle.command_line.specs.declared.words.Request.{Request}
 use Rattle.mem_model.specs.Memory.{new_memory}
 use Rattle.mem_model.specs.Places.{hunk_need}
-use Rattle.console_core.specs.States.{State, started}
-use Rattle.console_core.specs.Runs.{texts, IsCutShort, run_lines, lines_of, run}
+use Rattle.console_session.specs.States.{State, started}
+use Rattle.console_session.specs.Frames.{texts, IsCutShort}
+use Rattle.console_core.specs.Runs.{run_lines, lines_of, run}
 use Rattle.console_core.specs.Reading.{limit}
 use Rattle.pack_files.specs.declared.faults.PackFault.{PackFault}
 use Rattle.pack_files.specs.declared.faults.PackFault.TheVariants.{NotPack, TooMany, DirOutside}
@@ -18,8 +19,8 @@ use Rattle.search_paths.specs.Counts.{NoneFalls}
 use Rattle.search_paths.specs.Path.{PathState, all_some, told_of, counts_of, mounts_of}
 use Rattle.search_paths.specs.declared.answers.MountError.{MountError}
 use Rattle.search_paths.specs.declared.answers.MountError.TheVariants as error
-use Rattle.console_core.specs.declared.ends.Fault.{Fault}
-use Rattle.console_core.specs.declared.ends.Fault.TheVariants as fault
+use Rattle.console_session.specs.declared.ends.Fault.{Fault}
+use Rattle.console_session.specs.declared.ends.Fault.TheVariants as fault
 use Rattle.console_core.specs.declared.status.Status.{Status}
 use Rattle.console_core.specs.declared.status.Status.TheVariants.{Done, Usage, OutOfMemory, TooSmall, BadPack, ScriptFault, FolderFault, WriteFault, ScriptTooLong}
 

@@ -4,8 +4,9 @@ use Rattle.outside_io.specs.Causes.{Rose}
 use Rattle.search_paths.specs.Mounts.{Mount}
 use Rattle.search_paths.specs.Counts.{NoneFalls}
 use Rattle.outside_io.specs.Streams.{Took}
-use Rattle.console_core.specs.States.{State, CauseOf}
-use Rattle.console_core.specs.Runs.{run_lines, lines_of, IsRun, IsCutShort}
+use Rattle.console_session.specs.States.{State, CauseOf}
+use Rattle.console_session.specs.Frames.{IsRun, IsCutShort}
+use Rattle.console_core.specs.Runs.{run_lines, lines_of}
 use Rattle.console_core.specs.declared.script.ReadEnd.{ReadEnd}
 use Rattle.console_core.specs.declared.script.ReadEnd.TheVariants.{AtEnd, Quit, Ended, Failed, TooLong}
 

@@ -1,14 +1,14 @@
 // The script: it is read in pieces, and the whole lines of what was taken are run before the next read.
 ghost use Rattle.std.specs.Prelude.{◌≡◌, ◌≤◌, ◌++◌, ◌∷◌, IfSome, Ok, [], length, take, false};
 ghost use Rattle.outside_io.specs.Causes.{Rose};
-ghost use Rattle.console_core.specs.States.{HasCauses};
-ghost use Rattle.console_core.specs.Sessions.{told_end};
-ghost use Rattle.console_core.specs.Runs.{run_lines, lines_of, byte_run, still_pending, last_line, rest_run, line, HasNoNewline, Runs};
+ghost use Rattle.console_session.specs.States.{HasCauses};
+ghost use Rattle.console_session.specs.Sessions.{told_end};
+ghost use Rattle.console_session.specs.Frames.{line, Runs};
+ghost use Rattle.console_core.specs.Runs.{run_lines, lines_of, byte_run, still_pending, last_line, rest_run, HasNoNewline};
 ghost use Rattle.console_core.specs.Reading.{HasRead, ReadsPast, HasReadCauses};
 
-use crate::ends::{Fault, StepEnd};
-use crate::session::Session;
 use arrayvec::ArrayVec;
+use console_session::{Fault, Session, StepEnd};
 use mem_model::Store;
 use outside_io::{Folder, Sink, Source};
 

@@ -9,7 +9,6 @@ use std::process::Abort;
 mod commands;
 mod endings;
 mod mounts;
-mod sessions;
 
 const WORDS: [&str; 3] = ["-heapsize", "1024", "d"];
 

@@ -5,12 +5,11 @@ ghost use Rattle.search_paths.specs.Path.{all_some};
 ghost use Rattle.console_core.specs.Ends.{AsksTooMuch, usage_of, first_state, Ends, RunEnds, HasOwnCause, HandsOver, HasOutcome, IsFaultOf, IsAmong, IsComplete};
 ghost use Rattle.command_line.specs.CommandLine.{IsAsked};
 
-use crate::ends::Fault;
 use crate::opening::mount_all;
 use crate::script::{Pending, ReadEnd, run_rest, run_script};
-use crate::session::Session;
 use crate::status::Status;
 use command_line::{Request, request_of};
+use console_session::{Fault, Session};
 use mem_model::{PlainStore, Store, StoreStart};
 use outside_io::{Folder, Sink, Source};
 use std::alloc::Global;

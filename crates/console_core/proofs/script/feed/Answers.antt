@@ -1,7 +1,8 @@
 use Rattle.std.proofs.Common.{◌++◌, ◌+◌, ◌∙◌, sym, ap, subst, take, drop, get_or, arith, false, refl, List, ℕ, Ok}
-use Rattle.console_core.specs.Runs.{lines_of, IsRun}
-use Rattle.console_core.proofs.Following.{of_both, always}
-use Rattle.console_core.proofs.Causing.{counted_none, counted_of, counted_then, causes_later, causes_ok}
+use Rattle.console_session.specs.Frames.{IsRun}
+use Rattle.console_core.specs.Runs.{lines_of}
+use Rattle.console_session.proofs.Following.{of_both, always}
+use Rattle.console_session.proofs.Causing.{counted_none, counted_of, counted_then, causes_later, causes_ok}
 use Rattle.console_core.proofs.Scripts.{start_run, start_rest, more_taken, all_taken, rest_more, byte_runs, byte_quits, byte_cuts}
 use Rattle.console_core.specs.Runs.{run_lines}
 use Rattle.console_core.proofs.script.feed.Goals as goal

@@ -1,6 +1,7 @@
 use Rattle.std.proofs.Common.{◌≡◌, ◌≤◌, ◌++◌, take, IfSome, false}
-use Rattle.console_core.specs.Runs.{run_lines, lines_of, IsRun}
-use Rattle.console_core.proofs.Causing.{Counted}
+use Rattle.console_session.specs.Frames.{IsRun}
+use Rattle.console_core.specs.Runs.{run_lines, lines_of}
+use Rattle.console_session.proofs.Causing.{Counted}
 use Rattle.console_core.proofs.script.feed.Given as goal
 
 abbrev pub invariant-loop-byte : goal.invariant-loop-byte

@@ -1,7 +1,8 @@
 use Rattle.std.proofs.Common.{sym, subst}
-use Rattle.console_core.specs.Runs.{finish, last_line, rest_run, Runs}
-use Rattle.console_core.specs.Sessions.{told_end}
-use Rattle.console_core.proofs.Following.{of_both}
+use Rattle.console_session.specs.Frames.{finish, Runs}
+use Rattle.console_core.specs.Runs.{last_line, rest_run}
+use Rattle.console_session.specs.Sessions.{told_end}
+use Rattle.console_session.proofs.Following.{of_both}
 use Rattle.console_core.proofs.Scripts.{both_run}
 use Rattle.console_core.proofs.script.run_rest.Goals as goal
 

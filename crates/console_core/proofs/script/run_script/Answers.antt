@@ -4,13 +4,14 @@ use Rattle.search_paths.specs.Mounts.{Mount}
 use Rattle.outside_io.specs.Streams.{Took, TakesFront}
 use Rattle.outside_io.proofs.Puts.{adds_none}
 use Rattle.outside_io.proofs.Takes.{took_none}
-use Rattle.console_core.specs.States.{State}
-use Rattle.console_core.specs.Runs.{run_lines, lines_of, IsRun}
+use Rattle.console_session.specs.States.{State}
+use Rattle.console_session.specs.Frames.{IsRun}
+use Rattle.console_core.specs.Runs.{run_lines, lines_of}
 use Rattle.console_core.specs.Reading.{limit, ReadsPast, HasRead}
 use Rattle.console_core.specs.declared.script.ReadEnd.{ReadEnd}
 use Rattle.console_core.specs.declared.script.ReadEnd.TheVariants.{AtEnd, Quit, Ended, Failed, TooLong}
-use Rattle.console_core.proofs.Following.{of_told, of_both, always}
-use Rattle.console_core.proofs.Causing.{counted_none, counted_of, counted_then, causes_later}
+use Rattle.console_session.proofs.Following.{of_told, of_both, always}
+use Rattle.console_session.proofs.Causing.{counted_none, counted_of, counted_then, causes_later}
 use Rattle.console_core.proofs.Scripts.{is_pending, piece_runs, piece_rest, took_more}
 use Rattle.console_core.proofs.script.run_script.Goals as goal
 

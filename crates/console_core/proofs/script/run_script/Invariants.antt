@@ -1,8 +1,9 @@
 use Rattle.std.proofs.Common.{◌≡◌, ◌+◌, ◌≤◌, ℕ, List, length, take, IfSome, false}
 use Rattle.outside_io.specs.Streams.{Took}
-use Rattle.console_core.specs.Runs.{run_lines, lines_of, IsRun}
+use Rattle.console_session.specs.Frames.{IsRun}
+use Rattle.console_core.specs.Runs.{run_lines, lines_of}
 use Rattle.console_core.specs.Reading.{limit}
-use Rattle.console_core.proofs.Causing.{Counted}
+use Rattle.console_session.proofs.Causing.{Counted}
 use Rattle.console_core.proofs.script.run_script.Given as goal
 
 abbrev pub invariant-read : goal.invariant-read

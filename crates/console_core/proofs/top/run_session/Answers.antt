@@ -1,5 +1,5 @@
 use Rattle.std.proofs.Common.{inl, inr, Ok, Err, sym}
-use Rattle.console_core.proofs.Following.{of_told}
+use Rattle.console_session.proofs.Following.{of_told}
 use Rattle.console_core.proofs.Whole.{quits_whole, cuts_whole, ends_whole, of_script}
 use Rattle.console_core.proofs.Faulting.{ends_fault}
 use Rattle.console_core.proofs.top.run_session.Goals as goal

@@ -1,0 +1,85 @@
+-- The counts of folders and of the sink over steps, and the causes of faults.
+use Rattle.std.proofs.Common.{◌≡◌, ◌+◌, ◌≤◌, ◌<◌, ℕ, List, length, map, Bool, Option, Result, Ok, Err, refl, sym, ◌∙◌, ap, arith}
+use Rattle.std.proofs.lemmas.List.{length-map}
+use Rattle.std.specs.Prelude.{slice_index}
+use Rattle.outside_io.specs.Causes.{Rose}
+use Rattle.outside_io.specs.Files.{File}
+use Rattle.search_paths.specs.Counts.{NoneFalls, RoseAt}
+use Rattle.search_paths.specs.Path.{PathState, told_of, counts_of, rows_of, mounts_of, all_some, SamePath}
+use Rattle.search_paths.specs.Mounts.{Mount}
+use Rattle.search_paths.specs.declared.answers.MountRow.{MountRow}
+use Rattle.console_session.specs.States.{CauseOf, HasCauses}
+use Rattle.console_session.specs.Sessions.{PathSeen, path_of}
+use Rattle.console_session.specs.declared.ends.Fault.{Fault}
+use Rattle.console_session.specs.declared.ends.Fault.TheVariants as fault
+
+-- no count fell, and no folder came or went
+pub record Counted (faults_before faults_now : List ℕ) (sink_before sink_now : ℕ) : Type 0 where
+  pub none_falls : NoneFalls faults_before faults_now
+  pub folders : length faults_now ≡ length faults_before
+  pub sink_counts : sink_before ≤ sink_now
+
+pub counted_none : (faults : List ℕ) (sink : ℕ) → Counted faults faults sink sink
+counted_none faults sink = record { none_falls = λ folder. omega arith; folders = refl; sink_counts = omega arith }
+
+module _ (a b c : List ℕ) (s t u : ℕ) where
+  pub counted_then : Counted a b s t → Counted b c t u → Counted a c s u
+  counted_then first second = record {
+    none_falls = λ folder. omega (arith, first.none_falls folder, second.none_falls folder);
+    folders = second.folders ∙ first.folders;
+    sink_counts = omega (arith, first.sink_counts, second.sink_counts);
+  }
+
+  cause_later : (frugal : Bool) (error : Fault) → Counted a b s t → CauseOf frugal b c t u error → CauseOf frugal a c s u error
+  cause_later frugal (fault.Folder folder) first cause = (omega (arith, cause.0, first.folders), omega (arith, first.none_falls folder, cause.1))
+  cause_later frugal fault.Write first cause = omega (arith, first.sink_counts, cause)
+  cause_later frugal fault.Memory first cause = cause
+
+  -- what was counted before, and the causes of what came then
+  pub causes_later : {A : Type 0} (frugal : Bool) (result : Result A Fault) → Counted a b s t → HasCauses frugal b c t u result → HasCauses frugal a c s u result
+  causes_later frugal (Ok value) first causes = record {
+    none_falls = λ folder. omega (arith, first.none_falls folder, causes.none_falls folder);
+    folders = causes.folders ∙ first.folders;
+    sink_counts = omega (arith, first.sink_counts, causes.sink_counts);
+    cause = tt;
+  }
+  causes_later frugal (Err error) first causes = record {
+    none_falls = λ folder. omega (arith, first.none_falls folder, causes.none_falls folder);
+    folders = causes.folders ∙ first.folders;
+    sink_counts = omega (arith, first.sink_counts, causes.sink_counts);
+    cause = cause_later frugal error first causes.cause;
+  }
+
+pub counted_of : {A : Type 0} (a b : List ℕ) (s t : ℕ) (frugal : Bool) (result : Result A Fault) → HasCauses frugal a b s t result → Counted a b s t
+counted_of a b s t frugal result causes = record { none_falls = causes.none_falls; folders = causes.folders; sink_counts = causes.sink_counts }
+
+-- the causes of a fault are the same in every answer
+pub causes_of : {A B : Type 0} (a b : List ℕ) (s t : ℕ) (frugal : Bool) (error : Fault) → HasCauses {A = A} frugal a b s t (Err error) → HasCauses {A = B} frugal a b s t (Err error)
+causes_of a b s t frugal error causes = record { none_falls = causes.none_falls; folders = causes.folders; sink_counts = causes.sink_counts; cause = causes.cause }
+
+-- what was counted is all there is to say of a call that succeeded
+pub causes_ok : {A : Type 0} (a b : List ℕ) (s t : ℕ) (frugal : Bool) (value : A) → Counted a b s t → HasCauses frugal a b s t (Ok value)
+causes_ok a b s t frugal value counted = record { none_falls = counted.none_falls; folders = counted.folders; sink_counts = counted.sink_counts; cause = tt }
+
+-- a reply on a path that no call changed
+pub causes_put : {A : Type 0} (faults : List ℕ) (s t : ℕ) (frugal : Bool) (result : Result A Fault) → s ≤ t → ((error : Fault) → result ≡ Err error → (error ≡ fault.Write) × Rose s t) → HasCauses frugal faults faults s t result
+causes_put faults s t frugal (Ok value) sink writes = causes_ok faults faults s t frugal value (record { none_falls = λ folder. omega arith; folders = refl; sink_counts = sink })
+causes_put faults s t frugal (Err error) sink writes = record {
+  none_falls = λ folder. omega arith;
+  folders = refl;
+  sink_counts = sink;
+  cause = let write = writes error refl in rw write.0 write.1;
+}
+
+-- a path that calls left as it was
+module _ {F : Type 0} (files : F → Option (List File)) (before now : PathState F) (same : SamePath files before now) where
+  pub same_path : path_of files now ≡ path_of files before
+  same_path =
+      let from_rows : List MountRow → PathSeen = λ (rs : List MountRow). record { mounts = mounts_of files now; rows = rs; told = told_of files now } in
+      let from_mounts : List (Option Mount) → PathSeen = λ (ms : List (Option Mount)). record { mounts = all_some ms; rows = rows_of before; told = told_of files now } in
+      let from_told : List (Option (List File)) → PathSeen = λ (ts : List (Option (List File))). record { mounts = mounts_of files before; rows = rows_of before; told = ts } in
+      ap from_rows same.rows ∙ ap from_mounts same.mounts ∙ ap from_told same.told
+
+  pub same_count : (faults : F → ℕ) → length (counts_of faults now) ≡ length (counts_of faults before)
+  same_count faults =
+      omega (arith, ap length same.told, length-map now.folders files, length-map before.folders files, length-map now.folders faults, length-map before.folders faults)

@@ -1,0 +1,10 @@
+pub mod Causing
+pub mod Executing
+pub mod Following
+pub mod Holding
+pub mod Listing
+pub mod Mounting
+pub mod Valuing
+pub mod Taking
+pub mod Framing
+pub mod Lining

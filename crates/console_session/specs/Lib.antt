@@ -1,0 +1,5 @@
+pub mod States
+pub mod Holding
+pub mod Commands
+pub mod Frames
+pub mod Sessions

@@ -1,0 +1,102 @@
+-- The state of a console, and what a command does to it.
+use Rattle.std.specs.Prelude.{◌≡◌, ◌<◌, ◌≤◌, ℕ, List, [], length, Bool, true, false, Option, None, Result, Ok, Err, IfErr}
+use Rattle.outside_io.specs.Causes.{Rose}
+use Rattle.search_paths.specs.Counts.{NoneFalls, RoseAt}
+use Rattle.outside_io.specs.Streams.{Adds, AddsFront}
+use Rattle.mem_model.specs.Memory.{Memory, low_used, new_memory}
+use Rattle.cvar_table.specs.Cvars.{Cvar, created, defaults}
+use Rattle.console_session.specs.declared.ends.Next.{Next}
+use Rattle.console_session.specs.declared.ends.Next.TheVariants.{Goes}
+use Rattle.console_session.specs.declared.ends.Fault.{Fault}
+use Rattle.console_session.specs.declared.ends.Fault.TheVariants as fault
+
+-- The memory; the bytes of the command buffer; the host level, a mark of the low hunk; the cvars; and the record of the newest
+-- alias. The values of the cvars, and the aliases, are read from the memory.
+pub record State : Type 0 where
+  pub memory : Memory
+  pub buffer : List ℕ
+  pub level : ℕ
+  pub cvars : List Cvar
+  pub newest : Option ℕ
+
+-- a memory that was just created, with a zone of at least 4096 bytes and 768 users of the cache
+pub record IsNew (m : Memory) : Type 0 where
+  pub size : ℕ
+  pub zone : ℕ
+  pub event_room : ℕ
+  pub is : m ≡ new_memory size zone 768 event_room
+  pub large : 4096 ≤ zone
+
+abbrev pub cvars_in : Result (List Cvar) ℕ → List Cvar
+cvars_in (Ok cvars) = cvars
+cvars_in (Err asked) = []
+
+-- At the start the cvars have their defaults, there is no alias, the buffer is empty, and the host level is where the low hunk ends.
+abbrev pub started : Memory → State
+started m = record {
+  memory = (created m defaults).after;
+  buffer = [];
+  level = low_used m;
+  cvars = cvars_in (created m defaults).answer;
+  newest = None;
+}
+
+-- what a command prints, whether it asked for a file, and whether it asked for memory
+pub record Reply : Type 0 where
+  pub text : List ℕ
+  pub load : Bool
+  pub takes : Bool
+
+-- what a command does: the state after it, its reply, and how the console goes on
+pub record Did : Type 0 where
+  pub after : State
+  pub reply : Reply
+  pub next : Next
+
+-- a command that asks for neither
+abbrev pub says : State → Next → List ℕ → Did
+says s next text = record { after = s; reply = record { text = text; load = false; takes = false }; next = next }
+
+-- a command that asks for memory
+abbrev pub takes : State → List ℕ → Did
+takes s text = record { after = s; reply = record { text = text; load = false; takes = true }; next = Goes }
+
+-- a command that asks for a file, and for memory to put it in
+abbrev pub loads : State → List ℕ → Did
+loads s text = record { after = s; reply = record { text = text; load = true; takes = true }; next = Goes }
+
+-- All that a command does was done.
+pub record IsDone (did : Did) (answer : Next) (new : State) (start now : Option (List ℕ)) : Type 0 where
+  pub next : did.next ≡ answer
+  pub after : new ≡ did.after
+  pub put : Adds did.reply.text start now
+
+-- A fault ended a command in its reply: a failing sink took a front of it, and nothing of it was put where a folder failed, of
+-- which the command asked for a file, or where the memory ran out that it asked for.
+abbrev pub CutsOff : Reply → Fault → (start now : Option (List ℕ)) → Type 0
+CutsOff reply fault.Write start now = AddsFront reply.text start now
+CutsOff reply (fault.Folder folder) start now = (reply.load ≡ true) × (now ≡ start)
+CutsOff reply fault.Memory start now = (reply.takes ≡ true) × (now ≡ start)
+
+-- A call did what a command does, or a fault ended it in its reply.
+abbrev pub Follows : Did → Result Next Fault → State → (start now : Option (List ℕ)) → Type 0
+Follows did (Ok next) after start now = IsDone did next after start now
+Follows did (Err fault) after start now = CutsOff did.reply fault start now
+
+-- A reply was put, or a failing sink took a front of it.
+abbrev pub Replies : List ℕ → Next → Result Next Fault → (start now : Option (List ℕ)) → Type 0
+Replies text next (Ok answer) start now = (answer ≡ next) × Adds text start now
+Replies text next (Err error) start now = (error ≡ fault.Write) × AddsFront text start now
+
+-- A folder's fault names a folder whose count rose.
+abbrev pub CauseOf : Bool → (faults_before faults_now : List ℕ) → (sink_before sink_now : ℕ) → Fault → Type 0
+CauseOf frugal faults_before faults_now sink_before sink_now (fault.Folder folder) = (folder < length faults_before) × RoseAt folder faults_before faults_now
+CauseOf frugal faults_before faults_now sink_before sink_now fault.Write = Rose sink_before sink_now
+CauseOf frugal faults_before faults_now sink_before sink_now fault.Memory = frugal ≡ false
+
+-- Each fault has its cause, no count of faults falls, and no folder comes or goes.
+pub record HasCauses {A : Type 0} (frugal : Bool) (faults_before faults_now : List ℕ) (sink_before sink_now : ℕ) (result : Result A Fault) : Type 0 where
+  pub none_falls : NoneFalls faults_before faults_now
+  pub folders : length faults_now ≡ length faults_before
+  pub sink_counts : sink_before ≤ sink_now
+  pub cause : IfErr result (λ fault. CauseOf frugal faults_before faults_now sink_before sink_now fault)

@@ -1,0 +1,67 @@
+// What a session keeps, and the commands on it.
+ghost use Rattle.std.specs.Prelude.{◌≡◌, ◌<◌, Some, length, slice_get, IfOk, OnErr, false};
+ghost use Rattle.console_session.specs.States.{started, IsNew};
+ghost use Rattle.console_session.specs.Holding.{Holds};
+ghost use Rattle.search_paths.specs.Path.{counts_of};
+ghost use Rattle.console_session.specs.Sessions.{state_of};
+
+mod commands;
+mod frames;
+mod values;
+
+use cmd_buffer::{Aliases, CmdBuffer};
+use cvar_table::Cvars;
+use mem_model::{Store, ZoneError};
+use outside_io::Folder;
+use search_paths::Paths;
+use std::alloc::AllocError;
+
+/// The store and the path, and what a console keeps of its own.
+#[derive(Drop)]
+pub struct Console<M: Store, F: Folder> {
+    store: M,
+    paths: Paths<F>,
+    buffer: CmdBuffer,
+    // The mark of the low hunk above which the next map frees.
+    level: u32,
+    cvars: Cvars,
+    aliases: Aliases,
+    // Whether the run has ended.
+    pub ended: bool,
+}
+
+impl<M: Store, F: Folder> Console<M, F> {
+    // A console over a store that was just created.
+    pub fn start(store: M, paths: Paths<F>) -> Result<Console<M, F>, AllocError>
+        requires new { IsNew (M.state store) }
+        ensures state { IfOk result (λ console. state_of M.state console ≡ started (M.state store)) }
+        ensures holds { IfOk result (λ console. Holds (state_of M.state console)) }
+        ensures paths { IfOk result (λ console. console.paths ≡ paths) }
+        ensures going { IfOk result (λ console. console.ended ≡ false) }
+        ensures memory { OnErr result (M.frugal ≡ false) }
+    {
+        let mut store = store;
+        let level = store.low_mark();
+        match Cvars::create(&mut store) {
+            Ok(cvars) => Ok(Console {
+                store,
+                paths,
+                buffer: CmdBuffer::create(),
+                level,
+                cvars,
+                aliases: Aliases::create(),
+                ended: false,
+            }),
+            Err(ZoneError::Full { .. }) => unreachable!(),
+            Err(ZoneError::OutOfMemory) => Err(AllocError),
+        }
+    }
+
+    // The folder of this number.
+    pub fn take_folder(self, folder: u32) -> F
+        requires { folder < length (counts_of F.folder_faults self.paths) }
+        ensures { slice_get (self.paths.folders) folder ≡ Some result }
+    {
+        self.paths.take_folder(folder)
+    }
+}

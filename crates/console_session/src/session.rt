@@ -1,0 +1,130 @@
+// A session of the console.
+ghost use Rattle.std.specs.Prelude.{◌≡◌, ◌<◌, Some, length, slice_get, IfSome, IfOk, OnErr, false, true};
+ghost use Rattle.mem_model.specs.Laid.{Laid};
+ghost use Rattle.console_session.specs.States.{started, IsNew, HasCauses};
+ghost use Rattle.search_paths.specs.Path.{counts_of};
+ghost use Rattle.console_session.specs.Sessions.{path_of, told_end, is_end};
+ghost use Rattle.console_session.specs.Frames.{finish, line, Runs};
+
+use crate::console::Console;
+use crate::ends::{Fault, StepEnd};
+use mem_model::Store;
+use outside_io::{Folder, Sink};
+use search_paths::Paths;
+use std::alloc::AllocError;
+use std::marker::Model;
+
+/// A console over a store and a path of folders. In every session the memory is laid out, and the cvars and aliases are in
+/// blocks of the zone that nothing else writes.
+#[derive(Drop)]
+pub struct Session<M: Store, F: Folder = Box<dyn Folder>> {
+    console: Console<M, F>,
+}
+
+impl<M: Store, F: Folder> Model for Session<M, F> {
+    ghost use Rattle.search_paths.specs.Path.{counts_of};
+    ghost use Rattle.console_session.specs.Holding.{Holds};
+    ghost use Rattle.console_session.specs.Sessions.{Seen, path_of, state_of};
+
+    ghost Value = { Seen };
+
+    ghost view = { λ s. record {
+      state = state_of M.state s.console;
+      path = path_of F.files s.console.paths;
+      faults = counts_of F.folder_faults s.console.paths;
+      ended = s.console.ended;
+    } };
+
+    ghost invariant = { λ s. Holds (state_of M.state s.console) };
+}
+
+impl<M: Store, F: Folder> Session<M, F> {
+    /// A session over a store that was just created, with a zone of at least 4096 bytes and 768 cache users, and a path.
+    ///
+    /// The cvars get their defaults. It holds what is handed in and values of fixed size, and takes no memory of its own:
+    /// only a store that isn't frugal may refuse, for want of memory, and is dropped then with the path.
+    pub fn start(store: M, paths: Paths<F>) -> Result<Session<M, F>, AllocError>
+        requires new { IsNew (M.state store) }
+        ensures state { IfOk result (λ session. session.state ≡ started (M.state store)) }
+        ensures path { IfOk result (λ session. session.path ≡ path_of F.files paths) }
+        ensures faults { IfOk result (λ session. session.faults ≡ counts_of F.folder_faults paths) }
+        ensures going { IfOk result (λ session. session.ended ≡ false) }
+        ensures memory { OnErr result (M.frugal ≡ false) }
+    {
+        match Console::start(store, paths) {
+            Ok(console) => Ok(Session { console }),
+            Err(error) => Err(error),
+        }
+    }
+
+    /// Takes an input line, and runs a frame. The session must not have ended.
+    ///
+    /// The line is cut at its first zero byte. It and a newline are added to the buffer; where they don't fit,
+    /// `overflow` is printed. The frame takes commands until the buffer is empty or `wait` was executed, at most 4096.
+    /// After a fault the replies before one reply were put, and what the fault left of that one.
+    pub fn step<O: Sink>(&mut self, text: &[u8], out: &mut O) -> StepEnd
+        requires going { self.old.ended ≡ false }
+        ensures told { IfSome self.old.path.mounts (λ mounts. Runs (line mounts self.old.state text.now) (told_end result) self.new.state (O.got out.old) (O.got out.new)) }
+        ensures path { self.new.path ≡ self.old.path }
+        ensures laid { Laid self.new.state.memory }
+        ensures causes { HasCauses M.frugal self.old.faults self.new.faults (O.sink_faults out.old) (O.sink_faults out.new) (told_end result) }
+        ensures ended { self.new.ended ≡ is_end result }
+    {
+        let end = end_of(self.console.run_line(text, out));
+        self.console.ended = ends_run(end);
+        end
+    }
+
+    /// Runs the frames after the script's end, until the buffer is empty, with one budget of 4096 commands for all. The
+    /// session must not have ended, and has ended then.
+    pub fn finish<O: Sink>(&mut self, out: &mut O) -> StepEnd
+        requires going { self.old.ended ≡ false }
+        ensures told { IfSome self.old.path.mounts (λ mounts. Runs (finish mounts self.old.state) (told_end result) self.new.state (O.got out.old) (O.got out.new)) }
+        ensures path { self.new.path ≡ self.old.path }
+        ensures laid { Laid self.new.state.memory }
+        ensures causes { HasCauses M.frugal self.old.faults self.new.faults (O.sink_faults out.old) (O.sink_faults out.new) (told_end result) }
+        ensures ended { self.new.ended ≡ true }
+    {
+        let end = end_of(self.console.run_frame(true, out));
+        self.console.ended = true;
+        end
+    }
+
+    /// Hands the folder of this number back, and drops the rest.
+    pub fn take_folder(self, folder: u32) -> F
+        requires { folder < length self.faults }
+        ensures told { slice_get self.path.told folder ≡ Some (F.files result) }
+        ensures faults { slice_get self.faults folder ≡ Some (F.folder_faults result) }
+    {
+        self.console.take_folder(folder)
+    }
+
+    /// Whether the run has ended.
+    pub fn ended(&self) -> bool
+        ensures { result ≡ self.now.ended }
+    {
+        self.console.ended
+    }
+}
+
+// How a step ended.
+fn end_of(outcome: Result<bool, Fault>) -> StepEnd
+    ensures told { told_end result ≡ outcome }
+{
+    match outcome {
+        Ok(false) => StepEnd::Went,
+        Ok(true) => StepEnd::Quit,
+        Err(Fault::Folder { folder }) => StepEnd::FolderFault { folder },
+        Err(Fault::Write) => StepEnd::WriteFault,
+        Err(Fault::Memory) => StepEnd::OutOfMemory,
+    }
+}
+
+fn ends_run(end: StepEnd) -> bool
+    ensures { result ≡ is_end end }
+{
+    match end {
+        StepEnd::Went => false,
+        _ => true,
+    }
+}
