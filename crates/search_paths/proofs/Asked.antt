@@ -29,7 +29,7 @@ module _ {A : Type 0} (xs : List A) (at : ℕ) (d new : A) (inside : at < length
   pub kept : {B : Type 0} (v : A → B) → v new ≡ v (get_or xs at d) → map v (set xs at new) ≡ map v xs
   kept v same = map-set_same v xs at new d same
 
-  number_of : (v : A → ℕ) → slice_index (map v xs) at ≡ v (get_or xs at d)
+  pub number_of : (v : A → ℕ) → slice_index (map v xs) at ≡ v (get_or xs at d)
   number_of v = grind (arith, common_steps)
 
   -- a count

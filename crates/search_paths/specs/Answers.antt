@@ -1,11 +1,13 @@
 -- What the calls of the path answer.
-use Rattle.std.specs.Prelude.{◌≡◌, ℕ, ◌+◌, ◌^◌, ◌<◌, ◌≤◌, List, [], ◌∷◌, ◌++◌, length, map, reverse, slice_range, Option, Some, option_map, IfSome, IsOkAnd, Result, Ok, Err, ⊤}
+use Rattle.std.specs.Prelude.{◌≡◌, ℕ, ◌+◌, ◌^◌, ◌<◌, ◌≤◌, List, [], ◌∷◌, ◌++◌, length, map, reverse, take, slice_get, slice_range, Option, Some, None, option_map, IfSome, IsOkAnd, Result, Ok, Err, ⊤}
 use Rattle.outside_io.specs.Causes.{Rose}
 use Rattle.search_paths.specs.declared.answers.FileRef.{FileRef}
+use Rattle.search_paths.specs.declared.answers.FolderFault.{FolderFault}
 use Rattle.search_paths.specs.declared.answers.MountError.{MountError}
 use Rattle.search_paths.specs.declared.answers.MountError.TheVariants as error
 use Rattle.search_paths.specs.declared.answers.MountRow.{MountRow}
 use Rattle.search_paths.specs.declared.answers.MountRow.TheVariants as row
+use Rattle.search_paths.specs.Counts.{CallsOnce}
 use Rattle.search_paths.specs.Mounts.{FileAt, Mount, BadPack, bad_pack, file_in, find_in}
 
 -- where a file stands on the path, in the mount of this number
@@ -27,6 +29,29 @@ IsPart at part file = IfSome file.bytes (λ bytes. part ≡ slice_range bytes at
 -- where the mount tells its files, these are the bytes of its file of this name from `at` on
 abbrev pub IsFilePart : List ℕ → ℕ → List ℕ → Option Mount → Type 0
 IsFilePart name at part mount = IfSome mount (λ m. IfSome (file_in name m.files) (IsPart at part))
+
+-- the folders among mounts that are listed so
+abbrev pub folders_among : List MountRow → List ℕ
+folders_among [] = []
+folders_among (row.Folder folder ∷ rows) = folder ∷ folders_among rows
+folders_among (row.Pack folder pack count ∷ rows) = folders_among rows
+
+-- How many mounts were asked for a file: those up to the one that has it, or whose folder failed; or all.
+abbrev pub HasAsked : List MountRow → Result (Option FileRef) FolderFault → ℕ → Type 0
+HasAsked rows (Ok None) most = most ≡ length rows
+HasAsked rows (Ok (Some file)) most = most ≡ file.mount + 1
+HasAsked rows (Err fault) most = (last : ℕ) × (most ≡ last + 1) × (slice_get rows last ≡ Some (row.Folder fault.folder))
+
+-- The mounts are asked one after another, from the front on: each folder among those that were asked was called once.
+pub record AsksInOrder {F : Type 0} (calls : F → ℕ) (rows : List MountRow) (before after : List F) (result : Result (Option FileRef) FolderFault) : Type 0 where
+  pub most : ℕ
+  pub asked : HasAsked rows result most
+  pub called : CallsOnce calls (folders_among (take most rows)) before after
+
+-- the folder of a mount that is listed so
+abbrev pub folder_in : MountRow → ℕ
+folder_in (row.Folder folder) = folder
+folder_in (row.Pack folder pack count) = folder
 
 -- how large the numbers are of a file on a path of so many mounts
 pub record IsFileRef (mounts : ℕ) (file : FileRef) : Type 0 where

@@ -1,14 +1,14 @@
 // Finding a file on the path, and reading it.
 ghost use Rattle.std.specs.Prelude.{◌≡◌, ◌<◌, ◌≤◌, ◌+◌, ◌*◌, ◌^◌, ℕ, List, length, map, option_map, slice_get};
-ghost use Rattle.std.specs.Prelude.{All, IfOk, IfSome, OnOk};
+ghost use Rattle.std.specs.Prelude.{◌∷◌, [], All, IfOk, IfErr, IfSome, OnOk};
 ghost use Rattle.std.specs.Option.{option_flatten};
-ghost use Rattle.search_paths.specs.Answers.{ref_of, first_of, HasFile, IsFileRef, IsFilePart};
-ghost use Rattle.search_paths.specs.Counts.{NoneFalls, HasFolderCause};
-ghost use Rattle.search_paths.specs.Kept.{folder_of, mount_of, IsDirectory};
+ghost use Rattle.search_paths.specs.Answers.{ref_of, first_of, HasFile, IsFileRef, IsFilePart, AsksInOrder, folders_among, folder_in};
+ghost use Rattle.search_paths.specs.Counts.{NoneFalls, HasFolderCause, CallsOnce};
+ghost use Rattle.search_paths.specs.Kept.{folder_of, row_of, mount_of, IsDirectory};
 ghost use Rattle.search_paths.specs.Mounts.{file_in, packed_file};
 ghost use Rattle.search_paths.specs.Path.{all_some, rows_of, mounts_of, mount_at, counts_of, SamePath};
 
-use crate::answers::{FileRef, FolderFault};
+use crate::answers::{FileRef, FolderFault, MountRow};
 use crate::folders::{length_in, read_in};
 use crate::mounted::Mounted;
 use crate::names::name_of_pack;
@@ -19,7 +19,8 @@ use pack_files::Pack;
 
 impl<F: Folder> Paths<F> {
     /// The file of the first mount that has the name, or `None` exactly where no mount has it. A folder's fault comes only
-    /// where it is counted.
+    /// where it is counted. The mounts are asked from the front of the path on, up to the one that has the file: a folder is
+    /// called once, and a pack's directory is looked up without a call.
     pub fn find(&mut self, name: &GameName) -> Result<Option<FileRef>, FolderFault>
         ensures first { IfOk result (λ file.
             IfSome (mounts_of F.files self.old) (λ mounts. file ≡ first_of name.now mounts)) }
@@ -29,12 +30,13 @@ impl<F: Folder> Paths<F> {
         ensures same { SamePath F.files self.old self.new }
         ensures cause { HasFolderCause (counts_of F.folder_faults self.old) (counts_of F.folder_faults self.new) result }
         ensures calls { NoneFalls (counts_of F.folder_calls self.old) (counts_of F.folder_calls self.new) }
+        ensures asked { AsksInOrder F.folder_calls (rows_of self.old) self.old.folders self.new.folders result }
     {
         find_first(&mut self.folders, &self.mounts, name.bytes())
     }
 
     /// Fills `into` with the bytes from `at` on of the file that was found under this name. After an error `into` may hold
-    /// anything. A folder's fault comes only where it is counted.
+    /// anything. A folder's fault comes only where it is counted. The folder of the file's mount is called once, and no other.
     pub fn read(
         &mut self,
         file: &FileRef,
@@ -51,6 +53,8 @@ impl<F: Folder> Paths<F> {
         ensures same { SamePath F.files self.old self.new }
         ensures cause { HasFolderCause (counts_of F.folder_faults self.old) (counts_of F.folder_faults self.new) result }
         ensures calls { NoneFalls (counts_of F.folder_calls self.old) (counts_of F.folder_calls self.new) }
+        ensures asked { IfSome (slice_get (rows_of self.old) file.now.mount) (λ mount.
+            CallsOnce F.folder_calls (folder_in mount ∷ []) self.old.folders self.new.folders) }
     {
         let mounted = &self.mounts[file.mount as usize];
         read_from(&mut self.folders, mounted, file, name.bytes(), at, into)
@@ -74,6 +78,7 @@ fn find_first<F: Folder>(
     ensures told { map F.files folders.new ≡ map F.files folders.old }
     ensures cause { HasFolderCause (map F.folder_faults folders.old) (map F.folder_faults folders.new) result }
     ensures calls { NoneFalls (map F.folder_calls folders.old) (map F.folder_calls folders.new) }
+    ensures asked { AsksInOrder F.folder_calls (map row_of mounts.now) folders.old folders.new result }
 {
     for number in 0..mounts.len() {
         match find_in(folders, &mounts[number], number as u32, name) {
@@ -100,7 +105,9 @@ fn find_in<F: Folder>(
     ensures sized { IfOk result (λ file. IfSome file (IsFileRef (number + 1))) }
     ensures told { map F.files folders.new ≡ map F.files folders.old }
     ensures cause { HasFolderCause (map F.folder_faults folders.old) (map F.folder_faults folders.new) result }
+    ensures failed { IfErr result (λ fault. row_of mounted.now ≡ MountRow.Folder fault.folder) }
     ensures calls { NoneFalls (map F.folder_calls folders.old) (map F.folder_calls folders.new) }
+    ensures asked { CallsOnce F.folder_calls (folders_among (row_of mounted.now ∷ [])) folders.old folders.new }
 {
     match mounted {
         Mounted::Folder { folder } => match length_in(folders, *folder, name) {
@@ -153,6 +160,7 @@ fn read_from<F: Folder>(
     ensures told { map F.files folders.new ≡ map F.files folders.old }
     ensures cause { HasFolderCause (map F.folder_faults folders.old) (map F.folder_faults folders.new) result }
     ensures calls { NoneFalls (map F.folder_calls folders.old) (map F.folder_calls folders.new) }
+    ensures asked { CallsOnce F.folder_calls (folder_of mounted.now ∷ []) folders.old folders.new }
 {
     let place = file.offset + at;
     match mounted {

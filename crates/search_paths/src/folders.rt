@@ -1,8 +1,8 @@
 // Calls of one of the folders of a path.
-ghost use Rattle.std.specs.Prelude.{◌≡◌, ◌<◌, ◌^◌, length, map, IfOk, IfSome, OnOk};
+ghost use Rattle.std.specs.Prelude.{◌≡◌, ◌<◌, ◌^◌, ◌∷◌, [], length, map, IfOk, IfErr, IfSome, OnOk};
 ghost use Rattle.std.specs.Option.{ForSome};
 ghost use Rattle.outside_io.specs.Files.{length_of, HasRange, IsPartOf};
-ghost use Rattle.search_paths.specs.Counts.{NoneFalls, HasFolderCause};
+ghost use Rattle.search_paths.specs.Counts.{NoneFalls, HasFolderCause, CallsOnce};
 ghost use Rattle.search_paths.specs.Kept.{told_at};
 
 use crate::answers::FolderFault;
@@ -20,7 +20,9 @@ pub(crate) fn length_in<F: Folder>(
     ensures limit { IfOk result (λ len. IfSome len (λ n. n < 2 ^ 62)) }
     ensures told { map F.files folders.new ≡ map F.files folders.old }
     ensures cause { HasFolderCause (map F.folder_faults folders.old) (map F.folder_faults folders.new) result }
+    ensures failed { IfErr result (λ fault. fault.folder ≡ folder) }
     ensures calls { NoneFalls (map F.folder_calls folders.old) (map F.folder_calls folders.new) }
+    ensures asked { CallsOnce F.folder_calls (folder ∷ []) folders.old folders.new }
 {
     match folders[folder as usize].len_of(name) {
         Ok(length) => Ok(length),
@@ -42,6 +44,7 @@ pub(crate) fn read_in<F: Folder>(
     ensures told { map F.files folders.new ≡ map F.files folders.old }
     ensures cause { HasFolderCause (map F.folder_faults folders.old) (map F.folder_faults folders.new) result }
     ensures calls { NoneFalls (map F.folder_calls folders.old) (map F.folder_calls folders.new) }
+    ensures asked { CallsOnce F.folder_calls (folder ∷ []) folders.old folders.new }
 {
     match folders[folder as usize].read_at(name, at, into) {
         Ok(()) => Ok(()),

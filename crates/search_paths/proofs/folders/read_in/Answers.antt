@@ -1,5 +1,6 @@
 use Rattle.std.proofs.Common.{arith}
-use Rattle.search_paths.proofs.Asked.{kept, risen, caused_ok, caused_err}
+use Rattle.search_paths.proofs.Asked.{kept, risen, number_of, caused_ok, caused_err}
+use Rattle.search_paths.proofs.Calls.{called_at}
 use Rattle.search_paths.proofs.folders.read_in.Goals as goal
 
 pub returns-in-Ok-clause-told : goal.returns-in-Ok-clause-told
@@ -19,3 +20,9 @@ returns-in-Err-clause-cause g c = caused_err _ _ c.index-folders-folder.result _
 
 pub returns-in-Err-clause-calls : goal.returns-in-Err-clause-calls
 returns-in-Err-clause-calls g c = risen _ _ c.index-folders-folder.result _ c.requires.inside g.F.Folder.folder_calls (omega (arith, c.read_at.ensures.counted))
+
+pub returns-in-Ok-clause-asked : goal.returns-in-Ok-clause-asked
+returns-in-Ok-clause-asked g c = called_at g.F.Folder.folder_calls c.args.folders.now c.args.folder _ c.read_at.new.self (number_of _ _ c.index-folders-folder.result c.read_at.new.self c.requires.inside g.F.Folder.folder_calls) c.read_at.ensures.counted
+
+pub returns-in-Err-clause-asked : goal.returns-in-Err-clause-asked
+returns-in-Err-clause-asked g c = called_at g.F.Folder.folder_calls c.args.folders.now c.args.folder _ c.read_at.new.self (number_of _ _ c.index-folders-folder.result c.read_at.new.self c.requires.inside g.F.Folder.folder_calls) c.read_at.ensures.counted
