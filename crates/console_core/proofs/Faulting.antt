@@ -13,7 +13,7 @@ use Rattle.console_core.specs.Ends.{first_state, IsCutAt, RunEnds, OnPath, Hands
 use Rattle.console_session.specs.declared.ends.Fault.{Fault}
 use Rattle.console_session.specs.declared.ends.Fault.TheVariants as fault
 use Rattle.console_core.specs.declared.status.Status.{Status}
-use Rattle.console_core.specs.declared.status.Status.TheVariants.{Done, Usage, OutOfMemory, TooSmall, BadPack, ScriptFault, FolderFault, WriteFault, ScriptTooLong}
+use Rattle.console_core.specs.declared.status.Status.TheVariants.{Done, OutOfMemory, BadPack, ScriptFault, FolderFault, WriteFault, ScriptTooLong}
 
 module _ {F : Type 0} (status : Status F) (request : Request) (files : F → Option (List File)) (faults : F → ℕ) (told_now : List (Option (List File))) (counts : List ℕ)
     (told : Option (List Mount)) (rest_before rest_now start now : Option (List ℕ)) where
@@ -30,14 +30,12 @@ module _ {F : Type 0} (request : Request) (rest_before rest_now start now : Opti
   -- what is so of a run on known mounts is so where nothing is known of them
   unknown_mounts : (mounts : Option (List Mount)) (status : Status F) → RunEnds mounts request rest_before rest_now start now status → RunEnds None request rest_before rest_now start now status
   unknown_mounts mounts Done ends = record { taken = ends.taken; took = ends.took; size = ends.size; put = tt; all = inr tt }
-  unknown_mounts mounts (Usage word) ends = ends
   unknown_mounts mounts OutOfMemory ends = record { taken = ends.taken; took = ends.took; size = ends.size; put = tt }
-  unknown_mounts mounts TooSmall ends = ends
-  unknown_mounts mounts (BadPack folder pack fault) ends = ends
   unknown_mounts mounts ScriptFault ends = record { taken = ends.taken; took = ends.took; size = ends.size; put = tt }
   unknown_mounts mounts (FolderFault word folder) ends = record { taken = ends.taken; took = ends.took; size = ends.size; put = tt }
   unknown_mounts mounts WriteFault ends = record { taken = ends.taken; took = ends.took; size = ends.size; put = tt }
   unknown_mounts mounts ScriptTooLong ends = record { taken = ends.taken; took = ends.took; size = ends.size; put = tt }
+  unknown_mounts mounts status ends = ends
 
   -- a run on the path of the folders
   pub ends_on_path : (told : Option (List (List File))) (mounts : Option (List Mount)) (status : Status F) → IfSome told (λ folders. IsOkAnd (mounted folders) (λ ms. mounts ≡ Some ms)) → RunEnds mounts request rest_before rest_now start now status
@@ -52,15 +50,9 @@ module _ {F : Type 0} (request : Request) (rest_before rest_now start now : Opti
 -- the folder that is handed over, by the counts before
 module _ {F : Type 0} (first : ℕ) (files : F → Option (List File)) (faults : F → ℕ) (told : List (Option (List File))) (before now : List ℕ) (falls : NoneFalls before now) where
   pub hands_over : (status : Status F) → HandsOver first files faults told now status → HandsOver first files faults told before status
-  hands_over Done hands = tt
-  hands_over (Usage word) hands = tt
-  hands_over OutOfMemory hands = tt
-  hands_over TooSmall hands = tt
   hands_over (BadPack folder pack fault) hands = hands
-  hands_over ScriptFault hands = tt
   hands_over (FolderFault word folder) hands = (hands.0, hands.1, hands.2, omega (arith, falls hands.0, hands.3))
-  hands_over WriteFault hands = tt
-  hands_over ScriptTooLong hands = tt
+  hands_over status hands = tt
 
 get_later : {X : Type 0} (xs : List X) (first number : ℕ) → slice_get (drop first xs) number ≡ slice_get xs (first + number)
 get_later xs zero number = let same : number ≡ 0 + number = omega arith in ap (slice_get xs) same
@@ -83,13 +75,7 @@ module _ {F : Type 0} (files : F → Option (List File)) (faults : F → ℕ) (f
       }
 
   pub hands_back : (status : Status F) → request.first + request.folders ≡ length folders → HandsOver request.first files faults (map files rest) (map faults rest) status → HandsBack files faults folders (Ok request) status
-  hands_back Done all hands = tt
-  hands_back (Usage word) all hands = tt
-  hands_back OutOfMemory all hands = tt
-  hands_back TooSmall all hands = tt
   hands_back (BadPack folder pack fault) all hands = (omega (arith, hands.0, all, length-map rest files, ap length rest_is, length-drop request.first folders), hands.1)
-  hands_back ScriptFault all hands = tt
   hands_back (FolderFault word folder) all hands =
       (omega (arith, hands.1), subst (λ w. IsFailedFolder files faults folders w folder) (sym hands.1) (failed_folder hands.0 folder (slice_get rest hands.0) refl hands.2 hands.3))
-  hands_back WriteFault all hands = tt
-  hands_back ScriptTooLong all hands = tt
+  hands_back status all hands = tt

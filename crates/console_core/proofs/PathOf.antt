@@ -1,14 +1,14 @@
 -- Folders that are mounted one after another.
 use Prim.Native.Nat.{zero, suc}
 use Rattle.std.proofs.Common.{◌≡◌, ◌+◌, ◌≤◌, ◌<◌, ℕ, List, [], ◌∷◌, ◌++◌, length, map, Option, Some, None, IfSome, IsOkAnd, Result, Ok, Err, refl, sym, ◌∙◌, ap, subst, arith, inl, inr}
-use Rattle.std.specs.Prelude.{slice_get, slice_index, option_map, option_and_then, ◌⊎◌, IsErrOf}
+use Rattle.std.specs.Prelude.{slice_get, slice_index, option_map, ◌⊎◌, IsErrOf}
 use Rattle.std.proofs.lemmas.List.{length-append, length-map, map-append, map_push}
 use Rattle.outside_io.specs.Causes.{Rose}
 use Rattle.outside_io.specs.Files.{File}
-use Rattle.search_paths.specs.Answers.{IsMounted, IsOfFolder, IsCaused}
+use Rattle.search_paths.specs.Answers.{IsMounted, IsOfFolder}
 use Rattle.search_paths.specs.Counts.{NoneFalls}
 use Rattle.search_paths.specs.Mounts.{Mount, BadPack, own_mounts, with_folders, mounted, result_and_then}
-use Rattle.search_paths.specs.Path.{PathState, all_some, told_of, counts_of, told_mounts, mounts_of, AddsFolder}
+use Rattle.search_paths.specs.Path.{PathState, all_some, counts_of, told_mounts, mounts_of, AddsFolder}
 use Rattle.search_paths.specs.declared.answers.MountError.{MountError}
 use Rattle.search_paths.specs.declared.answers.MountError.TheVariants as error
 use Rattle.search_paths.proofs.FindLaws.{each_is_there}

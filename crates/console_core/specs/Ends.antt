@@ -45,40 +45,25 @@ fault_text DirOutside = codes "directory outside"
 abbrev pub bad_pack_text : (folder pack : ℕ) → PackFault → List ℕ
 bad_pack_text folder pack fault = joined (codes "bad pack " ∷ decimal folder ∷ codes " " ∷ decimal pack ∷ codes ": " ∷ fault_text fault ∷ [])
 
-abbrev pub status_text : {F : Type 0} → Status F → List ℕ
-status_text Done = []
-status_text (Usage word) = codes "usage: quake_cli [-heapsize KB] [-zone KB] [-speed HZ] folder ..."
-status_text OutOfMemory = codes "out of memory"
-status_text TooSmall = codes "heap too small"
-status_text (BadPack folder pack fault) = bad_pack_text folder pack fault
-status_text ScriptFault = codes "script read fault"
-status_text (FolderFault word folder) = codes "folder read fault"
-status_text WriteFault = codes "write fault"
-status_text ScriptTooLong = codes "script too long"
-
--- the same but for a bad pack
+-- the text of a status without numbers
 abbrev pub plain_text : {F : Type 0} → Status F → List ℕ
-plain_text Done = []
 plain_text (Usage word) = codes "usage: quake_cli [-heapsize KB] [-zone KB] [-speed HZ] folder ..."
 plain_text OutOfMemory = codes "out of memory"
 plain_text TooSmall = codes "heap too small"
-plain_text (BadPack folder pack fault) = []
 plain_text ScriptFault = codes "script read fault"
 plain_text (FolderFault word folder) = codes "folder read fault"
 plain_text WriteFault = codes "write fault"
 plain_text ScriptTooLong = codes "script too long"
+plain_text status = []
+
+abbrev pub status_text : {F : Type 0} → Status F → List ℕ
+status_text (BadPack folder pack fault) = bad_pack_text folder pack fault
+status_text status = plain_text status
 
 -- the word of a faulty command line
 abbrev pub usage_of : {F : Type 0} → Status F → Option ℕ
-usage_of Done = None
 usage_of (Usage word) = Some word
-usage_of OutOfMemory = None
-usage_of TooSmall = None
-usage_of (BadPack folder pack fault) = None
-usage_of ScriptFault = None
-usage_of (FolderFault word folder) = None
-usage_of WriteFault = None
-usage_of ScriptTooLong = None
+usage_of status = None
 
 -- What the words ask for, with 1 to 8 folders, or the number of the first that breaks the rule.
 abbrev pub Asks : List (List ℕ) → Result Request ℕ → Type 0
@@ -145,26 +130,20 @@ OnPath (Some folders) run = (mounts : List Mount) × (mounted folders ≡ Ok mou
 -- What a run on a path of these mounts took of the script and put, for each status that it may have.
 abbrev pub RunEnds : {F : Type 0} → Option (List Mount) → Request → (rest_before rest_now start now : Option (List ℕ)) → Status F → Type 0
 RunEnds mounts request rest_before rest_now start now Done = IsWhole mounts (first_state request) rest_before rest_now start now
-RunEnds mounts request rest_before rest_now start now (Usage word) = ⊥
 RunEnds mounts request rest_before rest_now start now OutOfMemory = IsCutAt fault.Memory mounts (first_state request) rest_before rest_now start now
-RunEnds mounts request rest_before rest_now start now TooSmall = ⊥
-RunEnds mounts request rest_before rest_now start now (BadPack folder pack fault) = ⊥
 RunEnds mounts request rest_before rest_now start now ScriptFault = IsFailed mounts (first_state request) rest_before rest_now start now
 RunEnds mounts request rest_before rest_now start now (FolderFault word folder) = IsCutAt (fault.Folder (word - request.first)) mounts (first_state request) rest_before rest_now start now
 RunEnds mounts request rest_before rest_now start now WriteFault = IsCutAt fault.Write mounts (first_state request) rest_before rest_now start now
 RunEnds mounts request rest_before rest_now start now ScriptTooLong = IsPastLimit mounts (first_state request) rest_before rest_now start now
+RunEnds mounts request rest_before rest_now start now status = ⊥
 
 -- what may end the opening, of which a bad pack is the first of these folders
 abbrev pub OpeningEnds : {F : Type 0} → Option (List (List File)) → Status F → Type 0
-OpeningEnds told Done = ⊥
-OpeningEnds told (Usage word) = ⊥
 OpeningEnds told OutOfMemory = ⊤
 OpeningEnds told TooSmall = ⊤
 OpeningEnds told (BadPack folder pack fault) = IfSome told (λ folders. mounted folders ≡ Err (record { folder = folder; pack = pack; fault = fault }))
-OpeningEnds told ScriptFault = ⊥
 OpeningEnds told (FolderFault word folder) = ⊤
-OpeningEnds told WriteFault = ⊥
-OpeningEnds told ScriptTooLong = ⊥
+OpeningEnds told status = ⊥
 
 -- The opening ended, with nothing taken and nothing put, or a run did, on the path of the folders.
 abbrev pub Ends : {F : Type 0} → Option (List (List File)) → Request → (rest_before rest_now start now : Option (List ℕ)) → Status F → Type 0
@@ -180,15 +159,12 @@ EndsFor (Err word) told rest_before rest_now start now status = IsUntouched rest
 -- A fault of the script or the sink came from that one: its count rose over the run. A faulty command line, one that asks for too
 -- much, and a bad pack call neither.
 abbrev pub HasOwnCause : {F : Type 0} → (script_before script_now sink_before sink_now : ℕ) → Status F → Type 0
-HasOwnCause script_before script_now sink_before sink_now Done = ⊤
 HasOwnCause script_before script_now sink_before sink_now (Usage word) = (script_now ≡ script_before) × (sink_now ≡ sink_before)
-HasOwnCause script_before script_now sink_before sink_now OutOfMemory = ⊤
 HasOwnCause script_before script_now sink_before sink_now TooSmall = (script_now ≡ script_before) × (sink_now ≡ sink_before)
 HasOwnCause script_before script_now sink_before sink_now (BadPack folder pack fault) = (script_now ≡ script_before) × (sink_now ≡ sink_before)
 HasOwnCause script_before script_now sink_before sink_now ScriptFault = Rose script_before script_now
-HasOwnCause script_before script_now sink_before sink_now (FolderFault word folder) = ⊤
 HasOwnCause script_before script_now sink_before sink_now WriteFault = Rose sink_before sink_now
-HasOwnCause script_before script_now sink_before sink_now ScriptTooLong = ⊤
+HasOwnCause script_before script_now sink_before sink_now status = ⊤
 
 -- this folder is what became of the one of this number: it tells the files that it told, and its count of faults rose
 pub record IsFailedFolder {F : Type 0} (files_of : F → Option (List File)) (faults_of : F → ℕ) (folders : List F) (number : ℕ) (folder : F) : Type 0 where
@@ -199,15 +175,9 @@ pub record IsFailedFolder {F : Type 0} (files_of : F → Option (List File)) (fa
 
 -- The folder that is handed back is that of a word that was asked for. A bad pack is in one of the folders that were asked for.
 abbrev pub HandsBack : {F : Type 0} → (F → Option (List File)) → (F → ℕ) → List F → Result Request ℕ → Status F → Type 0
-HandsBack files_of faults_of folders asked Done = ⊤
-HandsBack files_of faults_of folders asked (Usage word) = ⊤
-HandsBack files_of faults_of folders asked OutOfMemory = ⊤
-HandsBack files_of faults_of folders asked TooSmall = ⊤
 HandsBack files_of faults_of folders asked (BadPack folder pack fault) = IfOk asked (λ request. folder < request.folders) × (pack < 32)
-HandsBack files_of faults_of folders asked ScriptFault = ⊤
 HandsBack files_of faults_of folders asked (FolderFault word folder) = IfOk asked (λ request. request.first ≤ word) × IsFailedFolder files_of faults_of folders word folder
-HandsBack files_of faults_of folders asked WriteFault = ⊤
-HandsBack files_of faults_of folders asked ScriptTooLong = ⊤
+HandsBack files_of faults_of folders asked status = ⊤
 
 -- The status of a run that a fault ended. The folder of a folder's fault has this number among those that are held; the word of
 -- the first has the number `first`.
@@ -226,16 +196,10 @@ IsAmong folders fault.Memory = ⊤
 -- The folder that a folder's fault hands back is that of a word from `first` on; it tells what it told, and its count rose. A bad
 -- pack is in one of the folders.
 abbrev pub HandsOver : {F : Type 0} → (first : ℕ) → (F → Option (List File)) → (F → ℕ) → List (Option (List File)) → (counts : List ℕ) → Status F → Type 0
-HandsOver first files_of faults told counts Done = ⊤
-HandsOver first files_of faults told counts (Usage word) = ⊤
-HandsOver first files_of faults told counts OutOfMemory = ⊤
-HandsOver first files_of faults told counts TooSmall = ⊤
 HandsOver first files_of faults told counts (BadPack folder pack fault) = (folder < length told) × (pack < 32)
-HandsOver first files_of faults told counts ScriptFault = ⊤
 HandsOver first files_of faults told counts (FolderFault word folder) =
     (number : ℕ) × (word ≡ first + number) × (slice_get told number ≡ Some (files_of folder)) × Rose (slice_index counts number) (faults folder)
-HandsOver first files_of faults told counts WriteFault = ⊤
-HandsOver first files_of faults told counts ScriptTooLong = ⊤
+HandsOver first files_of faults told counts status = ⊤
 
 -- The path holds the folders: each tells what it told, and no count of faults fell. Its mounts are theirs, in front of each other.
 pub record IsPathOf {F : Type 0} (files_of : F → Option (List File)) (faults_of : F → ℕ) (folders : List F) (path : PathState F) : Type 0 where
@@ -272,10 +236,6 @@ pub record HasOutcome {F : Type 0} (words : List (List ℕ)) (files_of : F → O
 abbrev pub IsComplete : {F : Type 0} → Option (List (List File)) → Status F → Type 0
 IsComplete told Done = ⊤
 IsComplete told OutOfMemory = ⊤
-IsComplete told TooSmall = ⊥
 IsComplete told (BadPack folder pack fault) = IfSome told (λ folders. IsErr (mounted folders))
 IsComplete told (FolderFault word folder) = ⊤
-IsComplete told (Usage word) = ⊥
-IsComplete told ScriptFault = ⊥
-IsComplete told WriteFault = ⊥
-IsComplete told ScriptTooLong = ⊥
+IsComplete told status = ⊥

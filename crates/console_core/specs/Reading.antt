@@ -33,26 +33,20 @@ EndsAt TooLong taken rest = length taken ≡ limit + 1
 -- what is kept of the unfinished line, at the end
 abbrev pub Keeps : ReadEnd → (taken pending : List ℕ) → Type 0
 Keeps AtEnd taken pending = pending ≡ take 8192 (lines_of taken).rest
-Keeps Quit taken pending = Unit {0}
-Keeps (Ended fault) taken pending = Unit {0}
-Keeps Failed taken pending = Unit {0}
-Keeps TooLong taken pending = Unit {0}
+Keeps end taken pending = Unit {0}
 
 -- a read past the limit found the end, failed, or took a byte
 abbrev pub ReadsPast : ReadEnd → (before now : Option (List ℕ)) → Type 0
 ReadsPast AtEnd before now = Took [] before now × IfSome now (λ left. left ≡ [])
-ReadsPast Quit before now = ⊥
-ReadsPast (Ended fault) before now = ⊥
 ReadsPast Failed before now = Took [] before now
 ReadsPast TooLong before now = (byte : ℕ) × Took (byte ∷ []) before now
+ReadsPast end before now = ⊥
 
 -- Each fault has its cause, no count of faults falls, and no folder comes or goes.
 abbrev pub ReadCause : Bool → (faults_before faults_now : List ℕ) → (sink_before sink_now script_before script_now : ℕ) → ReadEnd → Type 0
-ReadCause frugal faults_before faults_now sink_before sink_now script_before script_now AtEnd = Unit {0}
-ReadCause frugal faults_before faults_now sink_before sink_now script_before script_now Quit = Unit {0}
 ReadCause frugal faults_before faults_now sink_before sink_now script_before script_now (Ended fault) = CauseOf frugal faults_before faults_now sink_before sink_now fault
 ReadCause frugal faults_before faults_now sink_before sink_now script_before script_now Failed = Rose script_before script_now
-ReadCause frugal faults_before faults_now sink_before sink_now script_before script_now TooLong = Unit {0}
+ReadCause frugal faults_before faults_now sink_before sink_now script_before script_now end = Unit {0}
 
 pub record HasReadCauses (frugal : Bool) (faults_before faults_now : List ℕ) (sink_before sink_now script_before script_now : ℕ) (end : ReadEnd) : Type 0 where
   pub none_falls : NoneFalls faults_before faults_now

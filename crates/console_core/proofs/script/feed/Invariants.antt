@@ -1,4 +1,4 @@
-use Rattle.std.proofs.Common.{◌≡◌, ◌≤◌, ◌++◌, take, IfSome, false}
+use Rattle.std.proofs.Common.{◌≡◌, ◌++◌, take, IfSome, false}
 use Rattle.console_session.specs.Frames.{IsRun}
 use Rattle.console_core.specs.Runs.{run_lines, lines_of}
 use Rattle.console_session.proofs.Causing.{Counted}

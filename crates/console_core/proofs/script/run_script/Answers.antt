@@ -11,7 +11,7 @@ use Rattle.console_core.specs.Reading.{limit, ReadsPast, HasRead}
 use Rattle.console_core.specs.declared.script.ReadEnd.{ReadEnd}
 use Rattle.console_core.specs.declared.script.ReadEnd.TheVariants.{AtEnd, Quit, Ended, Failed, TooLong}
 use Rattle.console_session.proofs.Following.{of_told, of_both, always}
-use Rattle.console_session.proofs.Causing.{counted_none, counted_of, counted_then, causes_later}
+use Rattle.console_session.proofs.Causing.{counted_none, counted_of, counted_then}
 use Rattle.console_core.proofs.Scripts.{is_pending, piece_runs, piece_rest, took_more}
 use Rattle.console_core.proofs.script.run_script.Goals as goal
 

@@ -1,8 +1,6 @@
-use Rattle.std.proofs.Common.{◌≡◌, inr, ap, sym, subst, Option, List}
+use Rattle.std.proofs.Common.{inr, ap}
 use Rattle.std.specs.Prelude.{map}
-use Rattle.search_paths.specs.Mounts.{Mount}
 use Rattle.search_paths.specs.Path.{all_some}
-use Rattle.console_core.specs.Ends.{RunEnds}
 use Rattle.console_session.specs.Sessions.{PathSeen}
 use Rattle.console_core.proofs.Faulting.{ends_on_path}
 use Rattle.console_core.proofs.top.run_folders.Goals as goal
