@@ -5,7 +5,8 @@ use Rattle.search_paths.specs.Mounts.{Mount}
 use Rattle.outside_io.specs.Streams.{Adds, AddsFront}
 use Rattle.cmd_buffer.specs.Buffer.{cut, kept, first_command}
 use Rattle.console_session.specs.States.{State, Did, CutsOff, Replies, Follows}
-use Rattle.console_session.specs.Commands.{word_at, verb_of, by_verb, by_words, by_text, command}
+use Rattle.console_session.specs.Commands.{word_at, by_verb, by_words, by_text, command}
+use Rattle.console_session.specs.Verbs.{verb_of}
 use Rattle.console_session.specs.declared.verbs.Verb.{Verb}
 use Rattle.console_session.specs.declared.ends.Next.{Next}
 use Rattle.console_session.specs.declared.ends.Fault.{Fault}

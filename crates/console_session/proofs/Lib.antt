@@ -4,6 +4,7 @@ pub mod Following
 pub mod Holding
 pub mod Listing
 pub mod Mounting
+pub mod Naming
 pub mod Valuing
 pub mod Taking
 pub mod Framing

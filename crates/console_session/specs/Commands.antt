@@ -1,6 +1,5 @@
 -- The commands.
 use Rattle.std.specs.Prelude.{ℕ, ◌+◌, Bool, ◌==◌, nat_le, if◌then◌else◌, List, [], ◌∷◌, ◌++◌, length, map, drop, slice_index_or, Option, Some, None, Result, Ok, Err, codes, decimal}
-use Rattle.std.specs.Str.{str_eq_ignore_ascii_case}
 use Rattle.base_fields.specs.Names.{lawful_name, base_of}
 use Rattle.base_fields.specs.Numbers.{number_of}
 use Rattle.base_fields.specs.Texts.{until_zero}
@@ -18,6 +17,7 @@ use Rattle.cmd_buffer.specs.Buffer.{cut, kept}
 use Rattle.cmd_buffer.specs.Aliases.{AliasText, AliasSet, AliasRefusal, AliasRefusal.LongName, AliasRefusal.Full, alias_texts, alias_value, set_alias}
 use Rattle.cvar_table.specs.Cvars.{CvarSet, cvar_value, set_cvar}
 use Rattle.reply_pieces.specs.Pieces.{joined}
+use Rattle.console_session.specs.Verbs.{verb_of}
 use Rattle.console_session.specs.States.{State, Did, says, takes, loads}
 use Rattle.console_session.specs.declared.ends.Next.TheVariants.{Goes, Waits, Quits}
 use Rattle.console_session.specs.declared.verbs.Verb.{Verb}
@@ -26,20 +26,6 @@ use Rattle.console_session.specs.declared.verbs.Verb.TheVariants as verb
 -- the word of this number, empty where there is none
 abbrev pub word_at : ℕ → List (List ℕ) → List ℕ
 word_at number words = slice_index_or words number []
-
--- the command that a word names, in any case
-abbrev pub verb_of : List ℕ → Option Verb
-verb_of word = if str_eq_ignore_ascii_case word (codes "file") then Some verb.File
-    else (if str_eq_ignore_ascii_case word (codes "echo") then Some verb.Echo
-    else (if str_eq_ignore_ascii_case word (codes "exec") then Some verb.Exec
-    else (if str_eq_ignore_ascii_case word (codes "wait") then Some verb.Wait
-    else (if str_eq_ignore_ascii_case word (codes "quit") then Some verb.Quit
-    else (if str_eq_ignore_ascii_case word (codes "reserve") then Some verb.Reserve
-    else (if str_eq_ignore_ascii_case word (codes "video") then Some verb.Video
-    else (if str_eq_ignore_ascii_case word (codes "level") then Some verb.Level
-    else (if str_eq_ignore_ascii_case word (codes "report") then Some verb.Report
-    else (if str_eq_ignore_ascii_case word (codes "alias") then Some verb.Alias
-    else (if str_eq_ignore_ascii_case word (codes "path") then Some verb.Path else None))))))))))
 
 -- each word followed by a space, and a newline at the end
 abbrev pub spaced : List (List ℕ) → List ℕ

@@ -1,5 +1,6 @@
 pub mod States
 pub mod Holding
+pub mod Verbs
 pub mod Commands
 pub mod Frames
 pub mod Sessions
