@@ -1,10 +1,9 @@
 -- The counts of folders and of the sink over steps, and the causes of faults.
-use Rattle.std.proofs.Common.{◌≡◌, ◌+◌, ◌≤◌, ◌<◌, ℕ, List, length, map, Bool, Option, Result, Ok, Err, refl, sym, ◌∙◌, ap, arith}
+use Rattle.std.proofs.Common.{◌≡◌, ◌≤◌, ℕ, List, length, Bool, Option, Result, Ok, Err, refl, ◌∙◌, ap, arith}
 use Rattle.std.proofs.lemmas.List.{length-map}
-use Rattle.std.specs.Prelude.{slice_index}
 use Rattle.outside_io.specs.Causes.{Rose}
 use Rattle.outside_io.specs.Files.{File}
-use Rattle.search_paths.specs.Counts.{NoneFalls, RoseAt}
+use Rattle.search_paths.specs.Counts.{NoneFalls}
 use Rattle.search_paths.specs.Path.{PathState, told_of, counts_of, rows_of, mounts_of, all_some, SamePath}
 use Rattle.search_paths.specs.Mounts.{Mount}
 use Rattle.search_paths.specs.declared.answers.MountRow.{MountRow}

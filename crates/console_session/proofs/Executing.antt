@@ -1,5 +1,5 @@
 -- What `exec` did, by what was loaded.
-use Rattle.std.proofs.Common.{◌≡◌, ℕ, List, [], ◌∷◌, ◌++◌, take, Bool, Option, IfSome, Result, refl, sym, ◌∙◌, ap, decimal, if◌then◌else◌}
+use Rattle.std.proofs.Common.{◌≡◌, ℕ, List, [], ◌∷◌, ◌++◌, take, Bool, Option, IfSome, Result, refl, sym, ◌∙◌, ap, if◌then◌else◌}
 use Rattle.std.specs.Prelude.{codes}
 use Rattle.std.proofs.lemmas.List.{take_at}
 use Rattle.base_fields.specs.Texts.{until_zero}

@@ -1,10 +1,9 @@
 -- A search for the command of a name, one after another.
-use Rattle.std.proofs.Common.{◌≡◌, ◌+◌, ◌<◌, ◌≤◌, ℕ, List, [], ◌∷◌, length, map, drop, get_or, true, false, Option, Some, None, Bor, refl, sym, ◌∙◌, ap, arith}
-use Rattle.std.specs.Prelude.{option_map, find}
+use Rattle.std.proofs.Common.{◌≡◌, ◌+◌, ◌<◌, ◌≤◌, ℕ, List, ◌∷◌, length, map, drop, get_or, true, false, Some, None, Bor, refl, ◌∙◌, ap, arith}
 use Rattle.std.specs.Str.{str_eq_ignore_ascii_case}
 use Rattle.std.proofs.lemmas.List.{drop_more, drop_all, length-map}
 use Rattle.std.proofs.Math.ListN.{get_or-map}
-use Rattle.console_session.specs.Verbs.{Named, named_verb, verb_among}
+use Rattle.console_session.specs.Verbs.{named_verb, verb_among}
 use Rattle.console_session.specs.declared.verbs.Verb.{Verb}
 
 module _ (word : List ℕ) (rows : List (Bor (List ℕ) × Verb)) (i : ℕ) where

@@ -1,4 +1,4 @@
-use Rattle.std.proofs.Common.{ℕ, ap, ◌∙◌}
+use Rattle.std.proofs.Common.{ap, ◌∙◌}
 use Rattle.file_load.specs.Loads.{load_low}
 use Rattle.search_paths.specs.Path.{PathState}
 use Rattle.console_session.specs.Sessions.{path_of, state_of}

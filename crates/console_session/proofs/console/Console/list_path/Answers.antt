@@ -1,4 +1,4 @@
-use Rattle.std.proofs.Common.{List, ap, refl, sym}
+use Rattle.std.proofs.Common.{List, ap, refl}
 use Rattle.search_paths.specs.declared.answers.MountRow.{MountRow}
 use Rattle.search_paths.specs.Path.{mounts_of, rows_of}
 use Rattle.search_paths.proofs.FindLaws.{rows-told}
