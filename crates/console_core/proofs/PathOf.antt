@@ -1,7 +1,8 @@
 -- Folders that are mounted one after another.
 use Prim.Native.Nat.{zero, suc}
-use Rattle.std.proofs.Common.{◌≡◌, ◌+◌, ◌≤◌, ◌<◌, ℕ, List, [], ◌∷◌, ◌++◌, length, map, Option, Some, None, IfSome, IsOkAnd, Result, Ok, Err, refl, sym, ◌∙◌, ap, subst, arith, inl, inr}
-use Rattle.std.specs.Prelude.{slice_get, slice_index, option_map, ◌⊎◌, IsErrOf}
+use Rattle.std.proofs.Common.{◌≡◌, ◌+◌, ◌≤◌, ◌<◌, ℕ, List, [], ◌∷◌, ◌++◌, length, map, Option, Some, None, IfSome, IsOkAnd, Result, Ok, Err, refl, sym, ◌∙◌, ap, subst, arith, inl, inr, ◌-◌, take}
+use Rattle.std.specs.Prelude.{slice_get, slice_index, option_map, ◌⊎◌, IsErrOf, IsOk}
+use Rattle.std.proofs.Math.Seq.{take-append_seam}
 use Rattle.std.proofs.lemmas.List.{length-append, length-map, map-append, map_push}
 use Rattle.outside_io.specs.Causes.{Rose}
 use Rattle.outside_io.specs.Files.{File}
@@ -138,6 +139,18 @@ module _ {F : Type 0} (files_of : F → Option (List File)) (faults_of calls_of 
   index_after [] ys y = refl
   index_after (x ∷ xs) ys y = index_after xs ys y
 
+  ok_of : (so_far : Result (List Mount) BadPack) → IsOkAnd so_far (λ ms. mounts_of files_of before ≡ Some ms) → IsOk so_far
+  ok_of (Ok ms) is = refl
+  ok_of (Err bad) is = absurd is
+
+  -- the folders before the next one have no bad pack
+  good_before : (rest : List F) (number first : ℕ) → number ≡ length before.folders → IfSome (all_some (map files_of (held ++ folder ∷ rest))) (λ told. IsOk (mounted (take (first + number - first) told)))
+  good_before rest number first last = if_some (all_some (map files_of (held ++ folder ∷ rest))) (λ told is.
+      let parts = parts_of (map files_of held) (files_of folder ∷ map files_of rest) told (ap all_some (sym (map-append files_of held (folder ∷ rest))) ∙ is) in
+      let count : first + number - first ≡ length parts.first = omega (arith, last, told_length parts.first parts.front, held_length) in
+      let front : take (first + number - first) told ≡ parts.first = ap (λ n. take n told) count ∙ ap (take (length parts.first)) parts.is ∙ take-append_seam parts.first parts.rest in
+      subst (λ l. IsOk (mounted l)) (sym front) (ok_of (mounted parts.first) (at_some (λ all. IsOkAnd (mounted all) (λ mounts. mounts_of files_of before ≡ Some mounts)) (all_some (map files_of held)) parts.first parts.front opened.mounts)))
+
   -- the folder that is handed over is what became of the next one
   failed_last : (rest : List F) (number first : ℕ) (failed : F) → number ≡ length before.folders → slice_get after.folders number ≡ Some failed → AddsFolder files_of faults_of calls_of folder before after (Err (error.FolderFault number))
       → HandsOver first files_of faults_of (map files_of (held ++ folder ∷ rest)) (map faults_of (held ++ folder ∷ rest)) (FolderFault (first + number) failed)
@@ -157,7 +170,7 @@ module _ {F : Type 0} (files_of : F → Option (List File)) (faults_of calls_of 
 
   abbrev Ended : List F → ℕ → Status F → Type 0
   Ended rest first status =
-      OpeningEnds (all_some (map files_of (held ++ folder ∷ rest))) status × HandsOver first files_of faults_of (map files_of (held ++ folder ∷ rest)) (map faults_of (held ++ folder ∷ rest)) status
+      OpeningEnds first (all_some (map files_of (held ++ folder ∷ rest))) status × HandsOver first files_of faults_of (map files_of (held ++ folder ∷ rest)) (map faults_of (held ++ folder ∷ rest)) status
 
   -- the opening ended with the next folder
   pub opens_no_more : (rest : List F) (fault : MountError) (first : ℕ) (status : Status F) → IfSome (files_of folder) (λ files. IsMounted (own_mounts (length before.folders) files) (told_mounts files_of before) (told_mounts files_of after) (Err fault))
@@ -169,7 +182,7 @@ module _ {F : Type 0} (files_of : F → Option (List File)) (faults_of calls_of 
       subst (λ (s : Status F). Ended rest first s) (sym is) (bad_all rest (record { folder = number; pack = pack; fault = fault }) given, (here, own.1))
   opens_no_more rest (error.FolderFault number) first status given own (inl none) is = absurd (let same = none.0 in cc)
   opens_no_more rest (error.FolderFault number) first status given own (inr added) is =
-      subst (λ (s : Status F). Ended rest first s) (sym is.1) (tt, failed_last rest number first is.0 own is.2 added)
+      subst (λ (s : Status F). Ended rest first s) (sym is.1) (good_before rest number first own, failed_last rest number first is.0 own is.2 added)
   opens_no_more rest error.OutOfMemory first status given own kept is = subst (λ (s : Status F). Ended rest first s) (sym is) (tt, tt)
 
 pub not_small : {F : Type 0} (fault : MountError) (first : ℕ) (path : PathState F) (status : Status F) → IsUnopened fault first path status → status ≡ TooSmall → ⊥

@@ -1,5 +1,5 @@
 -- How a run ends.
-use Rattle.std.specs.Prelude.{◌≡◌, ◌↔◌, ◌<◌, ◌≤◌, ◌+◌, ◌-◌, ◌*◌, ◌⊎◌, ◌++◌, ◌∷◌, ℕ, List, [], length, take, drop, map, slice_get, slice_index, ⊤, true, false, Option, Some, None, Result, Ok, Err, IfSome, IfOk, IsOkAnd, IsErr, codes, decimal}
+use Rattle.std.specs.Prelude.{◌≡◌, ◌↔◌, ◌<◌, ◌≤◌, ◌+◌, ◌-◌, ◌*◌, ◌⊎◌, ◌++◌, ◌∷◌, ℕ, List, [], length, take, drop, map, slice_get, slice_index, ⊤, true, false, Option, Some, None, Result, Ok, Err, IfSome, IfOk, IsOk, IsOkAnd, IsErr, codes, decimal}
 use Rattle.outside_io.specs.Causes.{Rose}
 use Rattle.outside_io.specs.Files.{File}
 use Rattle.outside_io.specs.Streams.{Adds, Took}
@@ -137,18 +137,19 @@ RunEnds mounts request rest_before rest_now start now WriteFault = IsCutAt fault
 RunEnds mounts request rest_before rest_now start now ScriptTooLong = IsPastLimit mounts (first_state request) rest_before rest_now start now
 RunEnds mounts request rest_before rest_now start now status = ⊥
 
--- what may end the opening, of which a bad pack is the first of these folders
-abbrev pub OpeningEnds : {F : Type 0} → Option (List (List File)) → Status F → Type 0
-OpeningEnds told OutOfMemory = ⊤
-OpeningEnds told TooSmall = ⊤
-OpeningEnds told (BadPack folder pack fault) = IfSome told (λ folders. mounted folders ≡ Err (record { folder = folder; pack = pack; fault = fault }))
-OpeningEnds told (FolderFault word folder) = ⊤
-OpeningEnds told status = ⊥
+-- What may end the opening, where the first folder's word has this number. A bad pack is the first of the folders; and those
+-- before a folder that failed have none.
+abbrev pub OpeningEnds : {F : Type 0} → (first : ℕ) → Option (List (List File)) → Status F → Type 0
+OpeningEnds first told OutOfMemory = ⊤
+OpeningEnds first told TooSmall = ⊤
+OpeningEnds first told (BadPack folder pack fault) = IfSome told (λ folders. mounted folders ≡ Err (record { folder = folder; pack = pack; fault = fault }))
+OpeningEnds first told (FolderFault word folder) = IfSome told (λ folders. IsOk (mounted (take (word - first) folders)))
+OpeningEnds first told status = ⊥
 
 -- The opening ended, with nothing taken and nothing put, or a run did, on the path of the folders.
 abbrev pub Ends : {F : Type 0} → Option (List (List File)) → Request → (rest_before rest_now start now : Option (List ℕ)) → Status F → Type 0
 Ends told request rest_before rest_now start now status =
-    (OpeningEnds told status × IsUntouched rest_before rest_now start now)
+    (OpeningEnds request.first told status × IsUntouched rest_before rest_now start now)
     ⊎ OnPath told (λ mounts. RunEnds mounts request rest_before rest_now start now status)
 
 -- What was taken and put by words, which may be faulty. The folders that are asked for are those of the last words.
@@ -211,7 +212,7 @@ pub record IsPathOf {F : Type 0} (files_of : F → Option (List File)) (faults_o
 abbrev pub IsOpened : {F : Type 0} → (first : ℕ) → (F → Option (List File)) → (F → ℕ) → List F → Result (PathState F) (Status F) → Type 0
 IsOpened first files_of faults_of folders (Ok path) = IsPathOf files_of faults_of folders path
 IsOpened first files_of faults_of folders (Err status) =
-    OpeningEnds (all_some (map files_of folders)) status × HandsOver first files_of faults_of (map files_of folders) (map faults_of folders) status
+    OpeningEnds first (all_some (map files_of folders)) status × HandsOver first files_of faults_of (map files_of folders) (map faults_of folders) status
 
 -- the status of a run whose last folder was not mounted
 abbrev pub IsUnopened : {F : Type 0} → MountError → (first : ℕ) → PathState F → Status F → Type 0
