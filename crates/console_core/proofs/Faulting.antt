@@ -6,7 +6,6 @@ use Rattle.std.proofs.lemmas.List.{length-map, length-drop}
 use Rattle.std.proofs.lemmas.Option.{slice_get-map, get_or_from_slice_get}
 use Rattle.outside_io.specs.Causes.{Rose}
 use Rattle.outside_io.specs.Files.{File}
-use Rattle.search_paths.specs.Counts.{NoneFalls}
 use Rattle.search_paths.specs.Mounts.{Mount, mounted, BadPack as BadPackOf}
 use Rattle.command_line.specs.declared.words.Request.{Request}
 use Rattle.console_core.specs.Ends.{first_state, IsCutAt, RunEnds, OnPath, HandsOver, HandsBack, IsFailedFolder, IsFaultOf}
@@ -46,13 +45,6 @@ module _ {F : Type 0} (request : Request) (rest_before rest_now start now : Opti
       by : (path : Result (List Mount) BadPackOf) → mounted folders ≡ path → IsOkAnd path (λ ms. mounts ≡ Some ms) → OnPath (Some folders) (λ ms. RunEnds ms request rest_before rest_now start now status)
       by (Ok ms) path_is same = (ms, path_is, subst (λ (m : Option (List Mount)). RunEnds m request rest_before rest_now start now status) same ends)
       by (Err bad) path_is same = absurd same
-
--- the folder that is handed over, by the counts before
-module _ {F : Type 0} (first : ℕ) (files : F → Option (List File)) (faults : F → ℕ) (told : List (Option (List File))) (before now : List ℕ) (falls : NoneFalls before now) where
-  pub hands_over : (status : Status F) → HandsOver first files faults told now status → HandsOver first files faults told before status
-  hands_over (BadPack folder pack fault) hands = hands
-  hands_over (FolderFault word folder) hands = (hands.0, hands.1, hands.2, omega (arith, falls hands.0, hands.3))
-  hands_over status hands = tt
 
 get_later : {X : Type 0} (xs : List X) (first number : ℕ) → slice_get (drop first xs) number ≡ slice_get xs (first + number)
 get_later xs zero number = let same : number ≡ 0 + number = omega arith in ap (slice_get xs) same

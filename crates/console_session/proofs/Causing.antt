@@ -1,10 +1,8 @@
 -- The counts of folders and of the sink over steps, and the causes of faults.
 use Rattle.std.proofs.Common.{◌≡◌, ◌≤◌, ℕ, List, length, Bool, Option, Result, Ok, Err, refl, ◌∙◌, ap, arith}
-use Rattle.std.proofs.lemmas.List.{length-map}
-use Rattle.outside_io.specs.Causes.{Rose}
 use Rattle.outside_io.specs.Files.{File}
 use Rattle.search_paths.specs.Counts.{NoneFalls}
-use Rattle.search_paths.specs.Path.{PathState, told_of, counts_of, rows_of, mounts_of, all_some, SamePath}
+use Rattle.search_paths.specs.Path.{PathState, told_of, rows_of, mounts_of, all_some, SamePath}
 use Rattle.search_paths.specs.Mounts.{Mount}
 use Rattle.search_paths.specs.declared.answers.MountRow.{MountRow}
 use Rattle.console_session.specs.States.{CauseOf, HasCauses}
@@ -60,16 +58,6 @@ causes_of a b s t frugal error causes = record { none_falls = causes.none_falls;
 pub causes_ok : {A : Type 0} (a b : List ℕ) (s t : ℕ) (frugal : Bool) (value : A) → Counted a b s t → HasCauses frugal a b s t (Ok value)
 causes_ok a b s t frugal value counted = record { none_falls = counted.none_falls; folders = counted.folders; sink_counts = counted.sink_counts; cause = tt }
 
--- a reply on a path that no call changed
-pub causes_put : {A : Type 0} (faults : List ℕ) (s t : ℕ) (frugal : Bool) (result : Result A Fault) → s ≤ t → ((error : Fault) → result ≡ Err error → (error ≡ fault.Write) × Rose s t) → HasCauses frugal faults faults s t result
-causes_put faults s t frugal (Ok value) sink writes = causes_ok faults faults s t frugal value (record { none_falls = λ folder. omega arith; folders = refl; sink_counts = sink })
-causes_put faults s t frugal (Err error) sink writes = record {
-  none_falls = λ folder. omega arith;
-  folders = refl;
-  sink_counts = sink;
-  cause = let write = writes error refl in rw write.0 write.1;
-}
-
 -- a path that calls left as it was
 module _ {F : Type 0} (files : F → Option (List File)) (before now : PathState F) (same : SamePath files before now) where
   pub same_path : path_of files now ≡ path_of files before
@@ -78,7 +66,3 @@ module _ {F : Type 0} (files : F → Option (List File)) (before now : PathState
       let from_mounts : List (Option Mount) → PathSeen = λ (ms : List (Option Mount)). record { mounts = all_some ms; rows = rows_of before; told = told_of files now } in
       let from_told : List (Option (List File)) → PathSeen = λ (ts : List (Option (List File))). record { mounts = mounts_of files before; rows = rows_of before; told = ts } in
       ap from_rows same.rows ∙ ap from_mounts same.mounts ∙ ap from_told same.told
-
-  pub same_count : (faults : F → ℕ) → length (counts_of faults now) ≡ length (counts_of faults before)
-  same_count faults =
-      omega (arith, ap length same.told, length-map now.folders files, length-map before.folders files, length-map now.folders faults, length-map before.folders faults)
