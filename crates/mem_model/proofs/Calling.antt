@@ -1,19 +1,19 @@
 -- What an operation gives, case by case, where no event is kept.
 use Rattle.std.proofs.Common.{◌≡◌, ℕ, ◌+◌, ◌-◌, ◌<◌, ◌≤◌, List, [], ◌∷◌, ◌++◌, Option, Some, None, Result, Ok, Err, Bool, true, false, ltb, length, refl, sym, ap, ◌∙◌, arith, if◌then◌else◌, is_ok}
-use Rattle.std.specs.Prelude.{codes, slice_get}
-use Rattle.std.proofs.lemmas.Bool.{lt-ltb, le-ltb}
-use Rattle.mem_model.specs.Event.{Event, Shortage, Event.HighAlloc, FreeRefusal.NotZone, FreeRefusal.AlreadyFree}
+use Rattle.std.specs.Prelude.{codes, slice_get, is_some, ◌≢◌}
+use Rattle.std.proofs.lemmas.Bool.{lt-ltb, le-ltb, eq-eqb, ne_eqb}
+use Rattle.mem_model.specs.Event.{Event, Shortage, Event.HighAlloc, FreeRefusal.NotZone, FreeRefusal.AlreadyFree, CacheRefusal.Occupied, CacheRefusal.BadSize, CacheRefusal.NoRoom}
 use Rattle.mem_model.specs.Blocks.{HunkBlock, ZoneBlock}
 use Rattle.mem_model.specs.Memory.{Memory, room, low_used, high_used, high_start}
 use Rattle.mem_model.specs.Answer.{Answered, Answers, Gives, noted, with_event}
-use Rattle.mem_model.specs.Places.{hunk_need, zone_need, round_up}
+use Rattle.mem_model.specs.Places.{hunk_need, zone_need, cache_need, round_up}
 use Rattle.mem_model.specs.Hunk.{hunk_block, with_low, with_high, without_temp, cut_above, cut_from}
+use Rattle.mem_model.specs.Cache.{pushed_up, pushed_down, with_new, block_of, peek_place, without, touched}
 use Rattle.mem_model.specs.Zone.{chosen, position_of, place_at, with_taken, with_free}
-use Rattle.mem_model.specs.Operations.{low_alloc, low_free, high_taken, high_alloc, high_mark, high_free, temp_alloc, z_alloc, z_free, shortage}
+use Rattle.mem_model.specs.Operations.{low_alloc, low_free, high_taken, high_alloc, high_mark, high_free, temp_alloc, z_alloc, z_free, shortage, cache_alloc, check, cache_free, flush}
 use Rattle.mem_model.specs.Told.{room_answer}
 use Rattle.mem_model.specs.declared.answers.RoomError.{RoomError}
 use Rattle.mem_model.specs.declared.answers.RoomError.TheVariants as room_error
-use Rattle.mem_model.proofs.Laying.{pushed_up_empty, pushed_down_empty}
 use Rattle.mem_model.proofs.HighLaying.{event_room-without_temp, temp-without_temp}
 
 -- with no room for events none is kept
@@ -32,13 +32,11 @@ unfolding low_alloc with_low
 low_alloc_taken m size name quiet fits =
     rw (le-ltb (room m) (hunk_need size) fits) (record { answer = refl; after = sym (with_event_none (with_low m (hunk_block (hunk_need size) name)) _ quiet) })
 
--- the same over an empty cache
-pub low_alloc_uncached : (m : Memory) (size : ℕ) (name : List ℕ) → m.event_room ≡ 0 → m.cache.blocks ≡ [] → hunk_need size ≤ room m →
-    Answers (low_alloc m size name) (Ok (low_used m + 16)) (record m { low = m.low ++ hunk_block (hunk_need size) name ∷ [] })
+-- the same with the new bounds of the cache as they are read
+pub low_alloc_grown : (m : Memory) (size end top : ℕ) (name : List ℕ) → m.event_room ≡ 0 → hunk_need size ≤ room m → end ≡ low_used m + hunk_need size → top ≡ high_start m →
+    Answers (low_alloc m size name) (Ok (low_used m + 16)) (record m { low = m.low ++ hunk_block (hunk_need size) name ∷ []; cache = pushed_up m.cache end top })
 unfolding with_low
-low_alloc_uncached m size name quiet empty fits =
-    let given = low_alloc_taken m size name quiet fits in
-    rw (pushed_up_empty m.cache (low_used m + hunk_need size) (high_start m) empty) at given
+low_alloc_grown m size end top name quiet fits ends tops = rw (ends, tops) (low_alloc_taken m size name quiet fits)
 
 pub low_free_cut : (m : Memory) (mark : ℕ) (kept : List HunkBlock) → m.event_room ≡ 0 → cut_above m.low mark ≡ Some kept →
     Answers (low_free m mark) (Ok tt) (record m { low = kept })
@@ -53,12 +51,11 @@ pub high_taken_refused : (m : Memory) (size : ℕ) (name : List ℕ) → room m 
 unfolding high_taken
 high_taken_refused m size name short = rw (lt-ltb (room m) (hunk_need size) short) (record { answer = refl; after = refl })
 
--- over an empty cache
-pub high_taken_uncached : (m : Memory) (size : ℕ) (name : List ℕ) → m.cache.blocks ≡ [] → hunk_need size ≤ room m →
-    Answers (high_taken m size name) (Ok (high_start m - hunk_need size + 16)) (record m { high = m.high ++ hunk_block (hunk_need size) name ∷ [] })
+-- with the new bound of the cache as it is read
+pub high_taken_grown : (m : Memory) (size top : ℕ) (name : List ℕ) → hunk_need size ≤ room m → top ≡ high_start m - hunk_need size →
+    Answers (high_taken m size name) (Ok (high_start m - hunk_need size + 16)) (record m { high = m.high ++ hunk_block (hunk_need size) name ∷ []; cache = pushed_down m.cache m.size top })
 unfolding high_taken with_high
-high_taken_uncached m size name empty fits =
-    rw (le-ltb (room m) (hunk_need size) fits, pushed_down_empty m.cache m.size (high_start m - hunk_need size) empty) (record { answer = refl; after = refl })
+high_taken_grown m size top name fits tops = rw (tops, le-ltb (room m) (hunk_need size) fits) (record { answer = refl; after = refl })
 
 -- what a high allocation gives, by whether the room is too small
 high_given : Memory → ℕ → List ℕ → Bool → Answered (Result ℕ Shortage)
@@ -167,3 +164,37 @@ pub z_free_used : (m : Memory) (place i : ℕ) (b : ZoneBlock) → m.event_room 
     Answers (z_free m place) (Ok tt) (record m { zone = with_free m.zone i })
 unfolding z_free
 z_free_used m place i b quiet some there used = rw (some, there, used) (record { answer = refl; after = sym (with_event_none (record m { zone = with_free m.zone i }) _ quiet) })
+
+pub cache_alloc_occupied : (m : Memory) (user size : ℕ) (name : List ℕ) → m.event_room ≡ 0 → is_some (block_of m.cache user) ≡ true → Answers (cache_alloc m user size name) (Err (Occupied user)) m
+unfolding cache_alloc
+cache_alloc_occupied m user size name quiet has = rw has (record { answer = refl; after = sym (with_event_none m _ quiet) })
+
+pub cache_alloc_bad : (m : Memory) (user size : ℕ) (name : List ℕ) → m.event_room ≡ 0 → is_some (block_of m.cache user) ≡ false → size ≡ 0 → Answers (cache_alloc m user size name) (Err BadSize) m
+unfolding cache_alloc
+cache_alloc_bad m user size name quiet free none = rw (free, eq-eqb size 0 none) (record { answer = refl; after = sym (with_event_none m _ quiet) })
+
+pub cache_alloc_short : (m : Memory) (user size : ℕ) (name : List ℕ) → m.event_room ≡ 0 → is_some (block_of m.cache user) ≡ false → size ≢ 0 → room m < cache_need size → Answers (cache_alloc m user size name) (Err (NoRoom (shortage m (cache_need size)))) m
+unfolding cache_alloc
+cache_alloc_short m user size name quiet free some short = rw (free, ne_eqb size 0 some, lt-ltb (room m) (cache_need size) short) (record { answer = refl; after = sym (with_event_none m _ quiet) })
+
+pub cache_alloc_taken : (m : Memory) (user size top : ℕ) (name : List ℕ) → m.event_room ≡ 0 → is_some (block_of m.cache user) ≡ false → size ≢ 0 → cache_need size ≤ room m → top ≡ high_start m →
+    Answers (cache_alloc m user size name) (Ok tt) (record m { cache = with_new m.cache (low_used m) top (cache_need size) user name })
+unfolding cache_alloc
+cache_alloc_taken m user size top name quiet free some fits tops =
+    rw (tops, free, ne_eqb size 0 some, le-ltb (room m) (cache_need size) fits) (record { answer = refl; after = sym (with_event_none (record m { cache = with_new m.cache (low_used m) (high_start m) (cache_need size) user name }) _ quiet) })
+
+pub check_some : (m : Memory) (user : ℕ) → m.event_room ≡ 0 → is_some (block_of m.cache user) ≡ true → Answers (check m user) (peek_place m.cache user) (record m { cache = touched m.cache user })
+unfolding check
+check_some m user quiet has = rw has (record { answer = refl; after = sym (with_event_none (record m { cache = touched m.cache user }) _ quiet) })
+
+pub check_none : (m : Memory) (user : ℕ) → m.event_room ≡ 0 → is_some (block_of m.cache user) ≡ false → Answers (check m user) (peek_place m.cache user) m
+unfolding check
+check_none m user quiet free = rw free (record { answer = refl; after = sym (with_event_none m _ quiet) })
+
+pub cache_free_gives : (m : Memory) (user : ℕ) → m.event_room ≡ 0 → Answers (cache_free m user) (is_some (block_of m.cache user)) (record m { cache = without m.cache user })
+unfolding cache_free
+cache_free_gives m user quiet = record { answer = refl; after = sym (with_event_none (record m { cache = without m.cache user }) _ quiet) }
+
+pub flush_gives : (m : Memory) → m.event_room ≡ 0 → Answers (flush m) tt (record m { cache = record { blocks = []; recency = [] } })
+unfolding flush
+flush_gives m quiet = record { answer = refl; after = sym (with_event_none (record m { cache = record { blocks = []; recency = [] } }) _ quiet) }

@@ -7,25 +7,7 @@ use Rattle.mem_model.specs.Places.{end_of}
 use Rattle.mem_model.specs.Memory.{Memory, size_of, low_used, high_start, room}
 use Rattle.mem_model.specs.Hunk.{without_temp, temp_freed}
 use Rattle.mem_model.specs.Laid.{Laid, IsHunkBlock, IsTemp, AreBetween}
-use Rattle.mem_model.proofs.Laying.{size_of-append, size_of-take, all-append, all-take, between_empty}
-
--- a memory with one high block more is laid out, over an empty cache
-pub Laid-with_high : (m : Memory) (b : HunkBlock) → Laid m → IsHunkBlock b → b.size ≤ room m → m.cache.blocks ≡ [] → m.temp ≡ None → Laid (record m { high = m.high ++ b ∷ [] })
-Laid-with_high m b laid block fits empty none = record {
-  small = laid.small;
-  inside = omega (arith, size_of-append m.high (b ∷ []), laid.inside);
-  low = laid.low;
-  high = all-append IsHunkBlock m.high (b ∷ []) laid.high (block, tt);
-  temp = rw none tt;
-  zone = laid.zone;
-  cache = record {
-    blocks = laid.cache.blocks;
-    between = between_empty _ _ _ empty (omega (arith, size_of-append m.high (b ∷ []), laid.inside));
-    one_each = laid.cache.one_each;
-    recency = laid.cache.recency;
-  };
-  events = laid.events;
-}
+use Rattle.mem_model.proofs.Laying.{size_of-append, size_of-take, all-append, all-take}
 
 between_higher : (blocks : List CacheBlock) (bottom top high : ℕ) → top ≤ high → AreBetween bottom top blocks → AreBetween bottom high blocks
 between_higher [] bottom top high h p = omega (arith, p)

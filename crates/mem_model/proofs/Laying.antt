@@ -47,62 +47,13 @@ IsHunkBlock-hunk_block size name text = record {
   bytes = length-replicate (hunk_need size - 16) 0;
 }
 
-low_blocks-append : (low : List HunkBlock) (b : HunkBlock) → AreLowBlocks low → IsHunkBlock b → AreLowBlocks (low ++ b ∷ [])
+pub low_blocks-append : (low : List HunkBlock) (b : HunkBlock) → AreLowBlocks low → IsHunkBlock b → AreLowBlocks (low ++ b ∷ [])
 low_blocks-append [] b p q = absurd p
 low_blocks-append (zone ∷ blocks) b p q = (p.0, all-append IsHunkBlock blocks (b ∷ []) p.1 (q, tt))
 
-first_size-append : (low : List HunkBlock) (b : HunkBlock) → AreLowBlocks low → first_size (low ++ b ∷ []) ≡ first_size low
+pub first_size-append : (low : List HunkBlock) (b : HunkBlock) → AreLowBlocks low → first_size (low ++ b ∷ []) ≡ first_size low
 first_size-append [] b p = absurd p
 first_size-append (zone ∷ blocks) b p = refl
-
--- over an empty cache a push does nothing
-up_in_empty : (turns bottom top : ℕ) (c : Cache) → c.blocks ≡ [] → up_in turns bottom top c ≡ c
-unfolding up_in
-up_in_empty zero bottom top c h = refl
-up_in_empty (suc turns) bottom top c h = rw h refl
-
-pub pushed_up_empty : (c : Cache) (bottom top : ℕ) → c.blocks ≡ [] → pushed_up c bottom top ≡ c
-unfolding pushed_up
-pushed_up_empty c bottom top h = up_in_empty _ bottom top c h
-
-down_in_empty : (turns top : ℕ) (c : Cache) → c.blocks ≡ [] → down_in turns top c ≡ c
-unfolding down_in
-down_in_empty zero top c h = refl
-down_in_empty (suc turns) top c h = rw h refl
-
-pub pushed_down_empty : (c : Cache) (size top : ℕ) → c.blocks ≡ [] → pushed_down c size top ≡ c
-unfolding pushed_down
-pushed_down_empty c size top h = down_in_empty _ top c h
-
-pub between_empty : (blocks : List CacheBlock) (bottom top : ℕ) → blocks ≡ [] → bottom ≤ top → AreBetween bottom top blocks
-between_empty blocks bottom top e h = rw e h
-
--- a memory with one low block more is laid out, over an empty cache
-pub Laid-with_low : (m : Memory) (b : HunkBlock) → Laid m → IsHunkBlock b → b.size ≤ room m → m.cache.blocks ≡ [] → Laid (with_low m b)
-unfolding with_low
-Laid-with_low m b laid block fits empty =
-    rw (pushed_up_empty m.cache (low_used m + b.size) (high_start m) empty) (record {
-      small = laid.small;
-      inside = omega (arith, size_of-append m.low (b ∷ []), laid.inside);
-      low = low_blocks-append m.low b laid.low block;
-      high = laid.high;
-      temp = laid.temp;
-      zone = rw (first_size-append m.low b laid.low) laid.zone;
-      cache = record {
-        blocks = laid.cache.blocks;
-        between = between_empty _ _ _ empty (omega (arith, size_of-append m.low (b ∷ []), laid.inside));
-        one_each = laid.cache.one_each;
-        recency = laid.cache.recency;
-      };
-      events = laid.events;
-    })
-
--- the same with the cache left as it is
-pub Laid-with_low_uncached : (m : Memory) (b : HunkBlock) → Laid m → IsHunkBlock b → b.size ≤ room m → m.cache.blocks ≡ [] → Laid (record m { low = m.low ++ b ∷ [] })
-unfolding with_low
-Laid-with_low_uncached m b laid block fits empty =
-    let grown = Laid-with_low m b laid block fits empty in
-    rw (pushed_up_empty m.cache (low_used m + b.size) (high_start m) empty) at grown
 
 -- What is written over bytes has as many.
 pub length-over : (old bytes : List ℕ) → length (over old bytes) ≡ length old

@@ -5,6 +5,18 @@ pub mod Cuts
 pub mod Calling
 pub mod Laws
 pub mod Pushes
+pub mod CacheBlocks
+pub mod CacheMoves
+pub mod CacheNew
+pub mod Gaps
+pub mod Jumps
+pub mod Shifts
+pub mod Searches
+pub mod CacheEdits
+pub mod Rises
+pub mod Falls
+pub mod Evicting
+pub mod Adding
 pub mod HighLaying
 pub mod HighCuts
 pub mod Newest
@@ -18,3 +30,4 @@ pub mod ZoneBytes
 pub mod Untouched
 pub mod ZoneApart
 pub mod ZoneLaws
+pub mod CacheLaws

@@ -5,12 +5,10 @@ use Rattle.std.specs.List.{AllByRecursion}
 use Rattle.std.proofs.lemmas.Bool.{eq-eqb, ltb-false, ltb-true, leb-true, and_parts, or_cases}
 use Rattle.std.proofs.lemmas.Bool.Decides.{eqb_tells}
 use Rattle.mem_model.specs.Blocks.{CacheBlock}
-use Rattle.mem_model.specs.Memory.{Cache}
+use Rattle.mem_model.specs.Memory.{Cache, cache_of}
 use Rattle.mem_model.specs.Places.{least, lesser, end_of, hop, is_clear, has_above}
+use Rattle.mem_model.specs.Gaps.{height, depth}
 use Rattle.mem_model.specs.Cache.{up_in, down_in, turned, hopped, hopped_to, highest_above, pushed_up, pushed_down, put_in, without_block}
-
-abbrev cache_of : List CacheBlock → List ℕ → Cache
-cache_of blocks recency = record { blocks = blocks; recency = recency }
 
 -- the blocks have sizes, and start in rising order from `low` on
 abbrev pub IsRising : ℕ → List CacheBlock → Type 0
@@ -38,12 +36,7 @@ rising-put_in : (low : ℕ) (blocks : List CacheBlock) (b : CacheBlock) → low 
 rising-put_in low [] b h s r = (h, s, tt)
 rising-put_in low (c ∷ cs) b h s r = rising-put_in_by low c cs b h s r (λ up. rising-put_in c.place cs b up s r.2) (ltb c.place b.place) refl
 
--- how far all blocks together may rise
-abbrev height : ℕ → List CacheBlock → ℕ
-height top [] = 0
-height top (b ∷ bs) = (suc top - b.place) + height top bs
-
-height-filter : (top : ℕ) (p : CacheBlock → Bool) (blocks : List CacheBlock) → height top (filter p blocks) ≤ height top blocks
+pub height-filter : (top : ℕ) (p : CacheBlock → Bool) (blocks : List CacheBlock) → height top (filter p blocks) ≤ height top blocks
 height-filter top p [] = omega arith
 height-filter top p (b ∷ bs) =
     elim (p b) as (λ t. height top (cond t (b ∷ filter p bs) (filter p bs)) ≤ (suc top - b.place) + height top bs) [
@@ -51,7 +44,7 @@ height-filter top p (b ∷ bs) =
       | false ↦ omega (arith, height-filter top p bs)
     ]
 
-height-put_in : (top : ℕ) (blocks : List CacheBlock) (b : CacheBlock) → height top (put_in blocks b) ≡ (suc top - b.place) + height top blocks
+pub height-put_in : (top : ℕ) (blocks : List CacheBlock) (b : CacheBlock) → height top (put_in blocks b) ≡ (suc top - b.place) + height top blocks
 height-put_in top [] b = refl
 height-put_in top (c ∷ cs) b =
     elim (ltb c.place b.place) as (λ t. height top (cond t (c ∷ put_in cs b) (b ∷ c ∷ cs)) ≡ (suc top - b.place) + ((suc top - c.place) + height top cs)) [
@@ -84,17 +77,17 @@ above-least low n (x ∷ xs) a e =
     omega (arith, same, above-lesser low x (least xs) a.0 (λ k h. above-least low k xs a.1 h))
 
 -- the lowest block hops up
-hop_above : (b : CacheBlock) (bs : List CacheBlock) (top place : ℕ) → IsRising b.place (b ∷ bs) → hop (b ∷ bs) b top ≡ Some place → b.place < place
+pub hop_above : (b : CacheBlock) (bs : List CacheBlock) (top place : ℕ) → IsRising b.place (b ∷ bs) → hop (b ∷ bs) b top ≡ Some place → b.place < place
 unfolding hop
 hop_above b bs top place r h =
     above-least b.place place _ (above-filter (λ p. is_clear (b ∷ bs) p b.size && (has_above (b ∷ bs) p || leb (p + b.size) top)) b.place (map end_of (b ∷ bs)) (above-ends b.place b.place (b ∷ bs) (omega arith) r)) h
 
 -- the block itself is dropped
-without-front : (b : CacheBlock) (bs : List CacheBlock) → without_block (b ∷ bs) b.user ≡ without_block bs b.user
+pub without-front : (b : CacheBlock) (bs : List CacheBlock) → without_block (b ∷ bs) b.user ≡ without_block bs b.user
 without-front b bs = rw (eq-eqb b.user b.user refl) refl
 
 -- A turn lowers the height and keeps the order.
-record IsTurn (top : ℕ) (blocks after : List CacheBlock) : Type 0 where
+pub record IsTurn (top : ℕ) (blocks after : List CacheBlock) : Type 0 where
   pub lower : height top after < height top blocks
   pub rising : IsRising 0 after
 
@@ -108,7 +101,7 @@ hopped_turn_to b bs recency top (Some place) r low e = rw (without-front b bs) (
   rising = rising-put_in 0 (without_block bs b.user) (record b { place = place }) (omega arith) r.1 (rising_lower b.place 0 _ (omega arith) (rising-filter (λ x. not (nat_eq x.user b.user)) b.place bs r.2));
 })
 
-hopped_turn : (b : CacheBlock) (bs : List CacheBlock) (recency : List ℕ) (top : ℕ) → IsRising 0 (b ∷ bs) → b.place ≤ top → IsTurn top (b ∷ bs) (hopped top (cache_of (b ∷ bs) recency) b).blocks
+pub hopped_turn : (b : CacheBlock) (bs : List CacheBlock) (recency : List ℕ) (top : ℕ) → IsRising 0 (b ∷ bs) → b.place ≤ top → IsTurn top (b ∷ bs) (hopped top (cache_of (b ∷ bs) recency) b).blocks
 unfolding hopped
 hopped_turn b bs recency top r low = hopped_turn_to b bs recency top (hop (b ∷ bs) b top) r low refl
 
@@ -117,7 +110,7 @@ abbrev pub StartsAbove : ℕ → List CacheBlock → Type 0
 StartsAbove bottom [] = Unit {0}
 StartsAbove bottom (b ∷ bs) = bottom ≤ b.place
 
-up_in-ends : (n : ℕ) (blocks : List CacheBlock) (recency : List ℕ) (bottom top : ℕ) → bottom ≤ top → IsRising 0 blocks → height top blocks ≤ n → StartsAbove bottom (up_in n bottom top (cache_of blocks recency)).blocks
+pub up_in-ends : (n : ℕ) (blocks : List CacheBlock) (recency : List ℕ) (bottom top : ℕ) → bottom ≤ top → IsRising 0 blocks → height top blocks ≤ n → StartsAbove bottom (up_in n bottom top (cache_of blocks recency)).blocks
 unfolding up_in
 up_in-ends zero [] recency bottom top h r few = tt
 up_in-ends (suc n) [] recency bottom top h r few = tt
@@ -130,7 +123,7 @@ up_in-ends (suc n) (b ∷ bs) recency bottom top h r few =
       | false ↦ λ e. ltb-false b.place bottom e
     ] refl
 
-height_most : (top : ℕ) (blocks : List CacheBlock) → height top blocks ≤ length blocks * suc top
+pub height_most : (top : ℕ) (blocks : List CacheBlock) → height top blocks ≤ length blocks * suc top
 height_most top [] = omega arith
 height_most top (b ∷ bs) = omega (arith, height_most top bs)
 
@@ -141,12 +134,7 @@ pushed_up-ends c bottom top h r = up_in-ends (length c.blocks * suc top) c.block
 
 -- Downwards: the highest block is the last, and hops down.
 
--- how far all blocks together may fall
-abbrev depth : List CacheBlock → ℕ
-depth [] = 0
-depth (b ∷ bs) = suc b.place + depth bs
-
-depth-filter : (p : CacheBlock → Bool) (blocks : List CacheBlock) → depth (filter p blocks) ≤ depth blocks
+pub depth-filter : (p : CacheBlock → Bool) (blocks : List CacheBlock) → depth (filter p blocks) ≤ depth blocks
 depth-filter p [] = omega arith
 depth-filter p (b ∷ bs) =
     elim (p b) as (λ t. depth (cond t (b ∷ filter p bs) (filter p bs)) ≤ suc b.place + depth bs) [
@@ -154,7 +142,7 @@ depth-filter p (b ∷ bs) =
       | false ↦ omega (arith, depth-filter p bs)
     ]
 
-depth-put_in : (blocks : List CacheBlock) (b : CacheBlock) → depth (put_in blocks b) ≡ suc b.place + depth blocks
+pub depth-put_in : (blocks : List CacheBlock) (b : CacheBlock) → depth (put_in blocks b) ≡ suc b.place + depth blocks
 depth-put_in [] b = refl
 depth-put_in (c ∷ cs) b =
     elim (ltb c.place b.place) as (λ t. depth (cond t (c ∷ put_in cs b) (b ∷ c ∷ cs)) ≡ suc b.place + (suc c.place + depth cs)) [
@@ -171,7 +159,7 @@ single top x b =
     ] refl
 
 -- without the highest block, all have less to fall
-dropped : (top : ℕ) (p : CacheBlock → Bool) (blocks : List CacheBlock) (b : CacheBlock) → highest_above top blocks ≡ Some b → p b ≡ false → depth (filter p blocks) + suc b.place ≤ depth blocks
+pub dropped : (top : ℕ) (p : CacheBlock → Bool) (blocks : List CacheBlock) (b : CacheBlock) → highest_above top blocks ≡ Some b → p b ≡ false → depth (filter p blocks) + suc b.place ≤ depth blocks
 dropped top p [] b h out = absurd (cc)
 dropped top p (x ∷ []) b h out =
     let same = (single top x b h).0 in
@@ -235,7 +223,7 @@ passes-lesser p x (Some k) h f =
     ]
 
 -- the least that passes a test passes it
-passes-least : (p : ℕ → Bool) (ns : List ℕ) (n : ℕ) → least (filter p ns) ≡ Some n → p n ≡ true
+pub passes-least : (p : ℕ → Bool) (ns : List ℕ) (n : ℕ) → least (filter p ns) ≡ Some n → p n ≡ true
 passes-least p [] n e = absurd (cc)
 passes-least p (x ∷ xs) n e =
     elim (p x) as (λ t. p x ≡ t → least (cond t (x ∷ filter p xs) (filter p xs)) ≡ Some n → p n ≡ true) [
@@ -259,7 +247,7 @@ hop_below top low place blocks b r h e =
     ]
 
 -- A turn lowers the depth and keeps the order.
-record IsTurnDown (blocks after : List CacheBlock) : Type 0 where
+pub record IsTurnDown (blocks after : List CacheBlock) : Type 0 where
   pub lower : depth after < depth blocks
   pub rising : IsRising 0 after
 
@@ -276,11 +264,11 @@ turn_down_to top c b (Some place) r h e = record {
   rising = rising-put_in 0 (without_block c.blocks b.user) (record b { place = place }) (omega arith) (highest top 0 c.blocks b r h).sized (rising-filter (λ x. not (nat_eq x.user b.user)) 0 c.blocks r);
 }
 
-turn_down : (top : ℕ) (c : Cache) (b : CacheBlock) → IsRising 0 c.blocks → highest_above top c.blocks ≡ Some b → IsTurnDown c.blocks (hopped top c b).blocks
+pub turn_down : (top : ℕ) (c : Cache) (b : CacheBlock) → IsRising 0 c.blocks → highest_above top c.blocks ≡ Some b → IsTurnDown c.blocks (hopped top c b).blocks
 unfolding hopped
 turn_down top c b r h = turn_down_to top c b (hop c.blocks b top) r h refl
 
-none_high : (top : ℕ) (blocks : List CacheBlock) → depth blocks ≤ 0 → highest_above top blocks ≡ None
+pub none_high : (top : ℕ) (blocks : List CacheBlock) → depth blocks ≤ 0 → highest_above top blocks ≡ None
 none_high top [] h = refl
 none_high top (b ∷ bs) h = absurd (omega arith)
 
@@ -294,7 +282,7 @@ unfolding down_in
 down_in-ends zero c top r few = none_high top c.blocks few
 down_in-ends (suc n) c top r few = down_turn n c top r few (λ d s f. down_in-ends n d top s f) (highest_above top c.blocks) refl
 
-depth_most : (size : ℕ) (blocks : List CacheBlock) → AllByRecursion (λ b. b.place ≤ size) blocks → depth blocks ≤ length blocks * suc size
+pub depth_most : (size : ℕ) (blocks : List CacheBlock) → AllByRecursion (λ b. b.place ≤ size) blocks → depth blocks ≤ length blocks * suc size
 depth_most size [] a = omega arith
 depth_most size (b ∷ bs) a = omega (arith, a.0, depth_most size bs a.1)
 

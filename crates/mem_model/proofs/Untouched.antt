@@ -11,14 +11,14 @@ use Rattle.mem_model.specs.Answer.{Answered, with_event}
 use Rattle.mem_model.specs.Operations.{low_alloc, low_free, low_cut, high_taken, high_alloc, high_free, high_cut, high_mark, temp_alloc, z_alloc, z_taken, z_free, z_freed, z_freed_at}
 
 -- no part but the events tells whether one was kept
-left-with_event : {X : Type 0} (f : Memory → X) → ((n : Memory) (events : List Event) → f (record n { events = events }) ≡ f n) → (m : Memory) (event : Event) → f (with_event m event) ≡ f m
+pub left-with_event : {X : Type 0} (f : Memory → X) → ((n : Memory) (events : List Event) → f (record n { events = events }) ≡ f n) → (m : Memory) (event : Event) → f (with_event m event) ≡ f m
 left-with_event f h m event = elim (ltb (length m.events) m.event_room) as (λ t. f (cond t (record m { events = m.events ++ event ∷ [] }) m) ≡ f m) [
   | true ↦ h m (m.events ++ event ∷ [])
   | false ↦ refl
 ]
 
 -- what each of two gives, the one of them that comes gives
-left-either : {A X : Type 0} (f : Memory → X) (t : Bool) (a b : Answered A) (x : X) → f a.after ≡ x → f b.after ≡ x → f (if t then a else b).after ≡ x
+pub left-either : {A X : Type 0} (f : Memory → X) (t : Bool) (a b : Answered A) (x : X) → f a.after ≡ x → f b.after ≡ x → f (if t then a else b).after ≡ x
 left-either f true a b x p q = p
 left-either f false a b x p q = q
 

@@ -33,6 +33,10 @@ block_of c user = find (λ b. nat_eq b.user user) c.blocks
 abbrev pub peek_place : Cache → ℕ → Option ℕ
 peek_place c user = option_map (λ b. b.place + 40) (block_of c user)
 
+-- the bytes of a user's block
+unfoldable pub peek_bytes : Cache → ℕ → Option (List ℕ)
+peek_bytes c user = option_map (λ b. b.bytes) (block_of c user)
+
 -- the cache with one of its blocks moved to a place, and its user as the most recently used
 abbrev pub moved : Cache → CacheBlock → ℕ → Cache
 moved c b place = record {

@@ -9,8 +9,11 @@ pub mod Hunk
 pub mod Operations
 pub mod Apart
 pub mod Laid
+pub mod Gaps
+pub mod Keeps
 pub mod Rows
 pub mod Told
 pub mod Plain
+pub mod CacheState
 pub mod ZoneState
 pub mod PlainState

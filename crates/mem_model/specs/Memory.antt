@@ -13,6 +13,9 @@ pub record Cache : Type 0 where
   pub blocks : List CacheBlock
   pub recency : List ℕ
 
+abbrev pub cache_of : List CacheBlock → List ℕ → Cache
+cache_of blocks recency = record { blocks = blocks; recency = recency }
+
 pub record Memory : Type 0 where
   -- of the arena, in bytes
   pub size : ℕ

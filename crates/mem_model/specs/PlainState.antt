@@ -14,16 +14,15 @@ state_of s = record {
   high = s.high.items;
   temp = s.temp;
   zone = s.zone;
-  cache = record { blocks = s.cache.items; recency = s.recency.items };
+  cache = s.cache;
   event_room = 0;
   events = [];
 }
 
--- Its memory is laid out, the two sums and all ends are those of the blocks, and the cache is empty as long as no call fills it.
+-- Its memory is laid out, and the two sums and all ends are those of the blocks.
 pub record IsPlain (s : Inside) : Type 0 where
   pub laid : Laid (state_of s)
   pub low_used : s.low_used ≡ size_of s.low.items
   pub high_used : s.high_used ≡ size_of s.high.items
   pub low_ends : s.low_ends.items ≡ ends_from 0 s.low.items
   pub high_ends : s.high_ends.items ≡ ends_from 0 s.high.items
-  pub uncached : s.cache.items ≡ []

@@ -1,6 +1,6 @@
 -- What a report says of the blocks, in rising order of place.
-use Rattle.std.specs.Prelude.{ℕ, ◌+◌, ◌-◌, List, [], ◌∷◌, ◌++◌, Bool, true, length, replicate}
-use Rattle.mem_model.specs.Blocks.{HunkBlock, ZoneBlock}
+use Rattle.std.specs.Prelude.{ℕ, ◌+◌, ◌-◌, List, [], ◌∷◌, ◌++◌, Bool, true, length, replicate, map}
+use Rattle.mem_model.specs.Blocks.{HunkBlock, ZoneBlock, CacheBlock}
 use Rattle.mem_model.specs.Memory.{Memory}
 
 -- the place of the header, and the name of 16 bytes
@@ -45,3 +45,9 @@ zone_rows_up start (b ∷ bs) = zone_row start b ∷ zone_rows_up (start + b.siz
 
 abbrev pub zone_rows : Memory → List Row
 zone_rows m = zone_rows_up 48 m.zone.blocks
+
+abbrev pub cache_row : CacheBlock → Row
+cache_row b = record { place = b.place; size = b.size; name = padded b.name; user = b.user; used = true }
+
+abbrev pub cache_rows : Memory → List Row
+cache_rows m = map cache_row m.cache.blocks

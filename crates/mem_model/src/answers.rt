@@ -37,6 +37,18 @@ pub enum FreeError {
     AlreadyFree { place: u32 },
 }
 
+/// Why a user got no block of the cache.
+#[derive(Clone, Copy, Debug, PartialEq, Eq)]
+pub enum CacheError {
+    /// The block needs `asked` bytes, its header included, and there are `room`.
+    NoRoom { asked: u64, room: u64 },
+    /// The user has a block.
+    Occupied { user: u32 },
+    /// No block has 0 bytes.
+    BadSize,
+    OutOfMemory,
+}
+
 /// What a report says of a block.
 #[derive(Clone, Copy, Debug, PartialEq, Eq)]
 pub struct BlockRow {
@@ -79,6 +91,17 @@ impl From<AllocError> for ZoneError {
 
     fn from(_error: AllocError) -> Self {
         ZoneError::OutOfMemory
+    }
+}
+
+impl From<AllocError> for CacheError {
+    ghost use Rattle.mem_model.specs.declared.answers.CacheError.{CacheError};
+    ghost use Rattle.std.specs.Prelude.{◌≡◌};
+
+    ghost from_gives = { λ _ e. e ≡ CacheError.OutOfMemory };
+
+    fn from(_error: AllocError) -> Self {
+        CacheError::OutOfMemory
     }
 }
 

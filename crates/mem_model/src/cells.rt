@@ -1,12 +1,14 @@
 //! The blocks of a plain store, each seen as the block that it stands for.
 
-ghost use Rattle.std.specs.Prelude.{◌≡◌, ◌<◌, ◌≤◌, ◌++◌, ◌∷◌, [], IfOk, OnOk, OnErr, length, vec_len, vec_capacity};
+ghost use Rattle.std.specs.Prelude.{◌≡◌, ◌<◌, ◌≤◌, ◌^◌, ◌++◌, ◌∷◌, [], IfOk, OnOk, OnErr, length, vec_len, vec_capacity};
 ghost use Rattle.std.specs.List.{insert};
 ghost use Rattle.std.specs.Borrow.{sem, Lends, u8 as byte, Array};
 ghost use Rattle.mem_model.specs.Hunk.{with_bytes, hunk_block};
 ghost use Rattle.mem_model.specs.Zone.{free_block, used_block, with_payload};
 ghost use Rattle.mem_model.specs.Plain.{is_fit};
-ghost use Rattle.mem_model.specs.Rows.{hunk_row, zone_row};
+ghost use Rattle.mem_model.specs.Rows.{hunk_row, zone_row, cache_row};
+ghost use Rattle.mem_model.specs.Cache.{new_block};
+ghost use Rattle.mem_model.specs.Places.{end_of};
 ghost use Rattle.mem_model.specs.Told.{row_of};
 ghost use Rattle.mem_model.specs.contracts.cells.HunkCell.{the_row as hunk_cell_row};
 ghost use Rattle.mem_model.specs.contracts.cells.ZoneCell.{the_row as zone_cell_row};
@@ -222,4 +224,80 @@ impl Model for CacheCell {
 
     ghost view = { λ c.
         record { place = c.place; size = c.size; user = c.user; name = c.name.items; bytes = c.bytes.items } };
+}
+
+impl CacheCell {
+    /// A block of `size` bytes, its header of 40 included, with zero bytes and the first 15 bytes of a name.
+    pub fn zeroed(alloc: Global, size: u32, user: u32, name: &[u8]) -> Result<CacheCell, AllocError>
+        requires { 40 ≤ size }
+        ensures { IfOk result (λ c. c ≡ new_block 0 size user name.now) }
+    {
+        let bytes = vec![in alloc; 0; (size - 40) as usize]?;
+        let mut front = Vec::new(alloc);
+        front.extend_from_slice(&name[..name.len().min(15)])?;
+        Ok(CacheCell {
+            place: 0,
+            size,
+            user,
+            name: front,
+            bytes,
+        })
+    }
+
+    /// Where the header is.
+    pub fn place(&self) -> u32
+        ensures { result ≡ self.now.place }
+    {
+        self.place
+    }
+
+    /// The size, the header of 40 included.
+    pub fn size(&self) -> u32
+        ensures { result ≡ self.now.size }
+    {
+        self.size
+    }
+
+    pub fn user(&self) -> u32
+        ensures { result ≡ self.now.user }
+    {
+        self.user
+    }
+
+    /// Where the block ends.
+    pub fn end(&self) -> u32
+        requires { end_of self.now ≤ 2 ^ 26 }
+        ensures { result ≡ end_of self.now }
+    {
+        self.place + self.size
+    }
+
+    /// The same block at another place.
+    pub fn set_place(&mut self, place: u32)
+        ensures { self.new ≡ record self.old { place = place } }
+    {
+        self.place = place;
+    }
+
+    /// The row of this block.
+    pub fn row(&self) -> BlockRow
+        requires { length self.now.name ≤ 16 }
+        ensures { row_of result ≡ cache_row self.now }
+    {
+        let mut name = [0; 16];
+        name[..self.name.len()].copy_from_slice(&self.name);
+        BlockRow {
+            place: self.place,
+            size: self.size,
+            name,
+            user: self.user,
+            used: true,
+        }
+    }
+
+    pub fn bytes(&self) -> &[u8]
+        ensures { result.now ≡ self.now.bytes }
+    {
+        self.bytes.as_slice()
+    }
 }

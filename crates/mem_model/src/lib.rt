@@ -4,6 +4,7 @@
 #![tactic(auto)]
 
 mod answers;
+mod cache;
 mod cells;
 mod plain;
 mod store;
@@ -11,6 +12,6 @@ mod store;
 mod tests;
 mod zone;
 
-pub use answers::{BadMark, BlockRow, FreeError, Place, RoomError, StoreStart, ZoneError};
+pub use answers::{BadMark, BlockRow, CacheError, FreeError, Place, RoomError, StoreStart, ZoneError};
 pub use plain::PlainStore;
 pub use store::Store;

@@ -7,12 +7,13 @@ ghost use Rattle.mem_model.specs.Hunk.{bytes_above, cut_above, cut_from, last_by
 ghost use Rattle.mem_model.specs.Operations.{high_taken};
 ghost use Rattle.mem_model.specs.Answer.{Gives};
 ghost use Rattle.mem_model.specs.Told.{room_answer};
-ghost use Rattle.mem_model.specs.Places.{hunk_need, zone_need};
+ghost use Rattle.mem_model.specs.Places.{hunk_need, zone_need, cache_need};
 ghost use Rattle.mem_model.specs.Plain.{IsAt, IsCut, IsHighCut, IsLast};
 ghost use Rattle.mem_model.specs.Laid.{Laid, IsMultiple, IsText, IsHunkBlock, AreLowBlocks};
 
-use crate::answers::{BadMark, BlockRow, FreeError, Place, RoomError, StoreStart, ZoneError};
-use crate::cells::{CacheCell, HunkCell, add};
+use crate::answers::{BadMark, BlockRow, CacheError, FreeError, Place, RoomError, StoreStart, ZoneError};
+use crate::cache::PlainCache;
+use crate::cells::{HunkCell, add};
 use crate::store::Store;
 use crate::zone::PlainZone;
 use std::alloc::Global;
@@ -34,8 +35,7 @@ pub struct PlainStore {
     high_ends: Vec<u32>,
     temp: Option<u32>,
     zone: PlainZone,
-    cache: Vec<CacheCell>,
-    recency: Vec<u32>,
+    cache: PlainCache,
 }
 
 impl Model for PlainStore {
@@ -64,6 +64,14 @@ fn zone_need(size: u64) -> u64
     ensures { result ≡ zone_need size }
 {
     (size + 28).div_ceil(8) * 8
+}
+
+// What a cache block with a payload of this size takes.
+fn cache_need(size: u64) -> u64
+    requires { size ≤ 2 ^ 62 }
+    ensures { result ≡ cache_need size }
+{
+    (size + 40).div_ceil(16) * 16
 }
 
 // The position of the block above the zone whose payload is at this place. It looks from the newest, which is asked
@@ -159,8 +167,7 @@ impl PlainStore {
             high_ends: Vec::new(alloc),
             temp: None,
             zone: PlainZone::create(alloc, zone - 32)?,
-            cache: Vec::new(alloc),
-            recency: Vec::new(alloc),
+            cache: PlainCache::create(alloc),
         })
     }
 
@@ -198,6 +205,7 @@ impl PlainStore {
         add(&mut self.high, cell)?;
         self.high_ends.push_reserved(used);
         self.high_used = used;
+        self.cache.push_down(self.size - used);
         Ok(Place(self.size - used + 16))
     }
 }
@@ -230,6 +238,7 @@ impl Store for PlainStore {
         add(&mut self.low, cell)?;
         self.low_ends.push_reserved(end);
         self.low_used = end;
+        self.cache.push_up(end, self.size - self.high_used);
         Ok(place)
     }
 
@@ -364,6 +373,59 @@ impl Store for PlainStore {
 
     fn rover(&self) -> u32 {
         self.zone.rover_place()
+    }
+
+    fn cache_alloc(&mut self, user: u32, size: u64, name: &[u8]) -> Result<(), CacheError> {
+        if self.cache.has(user) {
+            return Err(CacheError::Occupied { user });
+        }
+        if size == 0 {
+            return Err(CacheError::BadSize);
+        }
+        let asked = cache_need(size);
+        let room = u64::from(self.room());
+        if asked > room {
+            return Err(CacheError::NoRoom { asked, room });
+        }
+        let top = self.size - self.high_used;
+        self.cache.add(self.alloc, self.low_used, top, user, asked as u32, name)?;
+        Ok(())
+    }
+
+    fn check(&mut self, user: u32) -> Option<Place> {
+        let place = self.peek_place(user)?;
+        self.cache.touch(user);
+        Some(place)
+    }
+
+    fn peek(&self, user: u32) -> Option<&[u8]> {
+        match self.cache.cell_of(user) {
+            Some(cell) => Some(cell.bytes()),
+            None => None,
+        }
+    }
+
+    fn peek_place(&self, user: u32) -> Option<Place> {
+        match self.cache.cell_of(user) {
+            Some(cell) => Some(Place(cell.place() + 40)),
+            None => None,
+        }
+    }
+
+    fn cache_free(&mut self, user: u32) -> bool {
+        self.cache.free(user)
+    }
+
+    fn flush(&mut self) {
+        self.cache.flush();
+    }
+
+    fn cache_row(&self, number: u32) -> Option<BlockRow> {
+        self.cache.row(number as usize)
+    }
+
+    fn lru_user(&self, number: u32) -> Option<u32> {
+        self.cache.user(number as usize)
     }
 
     fn size(&self) -> u32 {

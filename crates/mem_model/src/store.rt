@@ -1,17 +1,18 @@
 //! One arena with a low hunk, a high hunk, a zone and a cache.
 
-ghost use Rattle.std.specs.Prelude.{◌≡◌, ℕ, ◌≤◌, ◌^◌, List, Bool, Some, None, IsSome, is_some, MatchOption, slice_get};
+ghost use Rattle.std.specs.Prelude.{◌≡◌, ℕ, ◌<◌, ◌≤◌, ◌^◌, List, Bool, Some, None, IsSome, is_some, MatchOption, slice_get};
 ghost use Rattle.std.specs.Borrow.{sem, Lends, u8 as byte, Array};
 ghost use Rattle.mem_model.specs.Memory.{Memory, low_used, high_used, room};
 ghost use Rattle.mem_model.specs.Answer.{Answers, Gives};
-ghost use Rattle.mem_model.specs.Told.{room_answer, zone_answer, free_answer, mark_answer, row_answer};
-ghost use Rattle.mem_model.specs.Rows.{low_rows, high_rows, zone_rows};
-ghost use Rattle.mem_model.specs.Operations.{low_alloc, low_free, high_alloc, high_mark, high_free, temp_alloc, z_alloc, z_free};
+ghost use Rattle.mem_model.specs.Told.{room_answer, zone_answer, cache_answer, place_answer, free_answer, mark_answer, row_answer};
+ghost use Rattle.mem_model.specs.Rows.{low_rows, high_rows, zone_rows, cache_rows};
+ghost use Rattle.mem_model.specs.Operations.{low_alloc, low_free, high_alloc, high_mark, high_free, temp_alloc, z_alloc, z_free, cache_alloc, check, cache_free, flush};
+ghost use Rattle.mem_model.specs.Cache.{peek_bytes, peek_place};
 ghost use Rattle.mem_model.specs.Hunk.{low_bytes, with_low_bytes, temp_bytes, with_temp_bytes, without_temp};
 ghost use Rattle.mem_model.specs.Zone.{zone_bytes, with_zone_bytes, rover_place};
 ghost use Rattle.mem_model.specs.Laid.{Laid, IsText};
 
-use crate::answers::{BadMark, BlockRow, FreeError, Place, RoomError, ZoneError};
+use crate::answers::{BadMark, BlockRow, CacheError, FreeError, Place, RoomError, ZoneError};
 
 /// A keeper of one arena. A block is known by the place of its payload. Sizes, places and marks are in bytes.
 pub trait Store: Drop {
@@ -186,6 +187,58 @@ pub trait Store: Drop {
     /// The place of the header of the block on which the rover stands, or 20 where it stands on the cap behind the last.
     fn rover(&self) -> u32
         ensures rover { result ≡ rover_place (state self.now).zone };
+
+    /// A user without a block gets one of `size` zero bytes, with the first 15 bytes of a name, and becomes the most
+    /// recently used. The block takes `size` and 40 bytes, rounded up to a multiple of 16. It stands at the first gap
+    /// between the hunks that is large enough. Where there is none, as few of the least recently used leave with their
+    /// blocks as have to.
+    ///
+    /// `Occupied` comes exactly where the user has a block, `BadSize` exactly where it has none and the size is 0, and
+    /// `NoRoom` exactly where neither comes and the room is less than the need. Each adds its event where events are kept,
+    /// and changes nothing else. Want of memory changes nothing.
+    fn cache_alloc(&mut self, user: u32, size: u64, name: &[u8]) -> Result<(), CacheError>
+        requires user { user < (state self.old).users }
+        requires size { size ≤ 2 ^ 62 }
+        requires name { IsText name.now }
+        ensures gives { Gives (cache_alloc (state self.old) user size name.now) frugal (state self.old)
+            (cache_answer result) (state self.new) }
+        ensures was_laid { Laid (state self.old) }
+        ensures laid { Laid (state self.new) };
+
+    /// The place of a user's block, which makes the user the most recently used: `None` exactly where it has none.
+    fn check(&mut self, user: u32) -> Option<Place>
+        ensures gives { Answers (check (state self.old) user) (place_answer result) (state self.new) }
+        ensures laid { Laid (state self.new) };
+
+    /// The bytes of a user's block, which is no use of it: `None` exactly where it has none.
+    fn peek(&self, user: u32) -> Option<&[u8]>
+        ensures { MatchOption result (peek_bytes (state self.now).cache user ≡ None)
+            (λ bytes. peek_bytes (state self.now).cache user ≡ Some bytes.now) };
+
+    /// The place of a user's block, which is no use of it: `None` exactly where it has none.
+    fn peek_place(&self, user: u32) -> Option<Place>
+        ensures place { place_answer result ≡ peek_place (state self.now).cache user };
+
+    /// Frees a user's block, and answers whether there was one.
+    fn cache_free(&mut self, user: u32) -> bool
+        ensures gives { Answers (cache_free (state self.old) user) result (state self.new) }
+        ensures laid { Laid (state self.new) };
+
+    /// Frees every block of the cache.
+    fn flush(&mut self)
+        ensures gives { Answers (flush (state self.old)) tt (state self.new) }
+        ensures laid { Laid (state self.new) };
+
+    /// The block of a number in the cache, from the lowest place upwards: `None` exactly past the last.
+    ///
+    /// The place is that of the header, and each block is in use.
+    fn cache_row(&self, number: u32) -> Option<BlockRow>
+        ensures row { row_answer result ≡ slice_get (cache_rows (state self.now)) number };
+
+    /// The user of a number among those that have a block in the cache, the most recently used first: `None` exactly past
+    /// the last.
+    fn lru_user(&self, number: u32) -> Option<u32>
+        ensures user { result ≡ slice_get (state self.now).cache.recency number };
 
     /// The size of the arena.
     fn size(&self) -> u32

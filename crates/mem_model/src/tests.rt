@@ -3,7 +3,7 @@
 ghost use Rattle.std.specs.Prelude.{◌≡◌, ◌≤◌, ◌^◌, length, true, IfOk};
 
 use crate::{
-    BadMark, BlockRow, FreeError, Place, PlainStore, RoomError, Store, StoreStart, ZoneError,
+    BadMark, BlockRow, CacheError, FreeError, Place, PlainStore, RoomError, Store, StoreStart, ZoneError,
 };
 use std::test::Fail;
 
@@ -246,5 +246,127 @@ fn zone_blocks_keep_what_is_written(rt: HostRuntime) -> Result<(), Fail> {
     assert!(rt; reads_back_zone(&mut store, b"hello")?);
     assert!(rt; reads_back_zone(&mut store, b"a longer text, of more than one line")?);
     assert_eq!(rt; store.rover(), 48 + 40 + 64);
+    Ok(())
+}
+
+// The place and the user of a row of the cache.
+fn brief_cache(row: Option<BlockRow>) -> Option<(u32, u32)> {
+    match row {
+        Some(row) => Some((row.place, row.user)),
+        None => None,
+    }
+}
+
+// The places and users of the first four blocks, and the first four users by use.
+fn shown(store: &PlainStore) -> ([Option<(u32, u32)>; 4], [Option<u32>; 4]) {
+    (
+        [
+            brief_cache(store.cache_row(0)),
+            brief_cache(store.cache_row(1)),
+            brief_cache(store.cache_row(2)),
+            brief_cache(store.cache_row(3)),
+        ],
+        [
+            store.lru_user(0),
+            store.lru_user(1),
+            store.lru_user(2),
+            store.lru_user(3),
+        ],
+    )
+}
+
+#[test]
+fn blocks_of_the_cache_hop_up(rt: HostRuntime) -> Result<(), Fail> {
+    let mut store = PlainStore::create(rt.alloc(), 65_536, 49_152, 8)?;
+    for (user, size) in [(0, 56), (1, 216), (2, 56)] {
+        assert_eq!(rt; store.cache_alloc(user, size, b"sound"), Ok(()));
+    }
+    assert_eq!(rt;
+        shown(&store),
+        (
+            [Some((49_168, 0)), Some((49_264, 1)), Some((49_520, 2)), None],
+            [Some(2), Some(1), Some(0), None]
+        )
+    );
+    assert!(rt; store.cache_free(1));
+    assert!(rt; !store.cache_free(1));
+    store.low_alloc(192, b"map")?;
+    assert_eq!(rt;
+        shown(&store),
+        (
+            [Some((49_520, 2)), Some((49_616, 0)), None, None],
+            [Some(0), Some(2), None, None]
+        )
+    );
+    assert_eq!(rt; store.peek_place(0), Some(Place(49_656)));
+    assert_eq!(rt; store.peek_place(1), None);
+    Ok(())
+}
+
+#[test]
+fn blocks_of_the_cache_hop_down(rt: HostRuntime) -> Result<(), Fail> {
+    let mut store = PlainStore::create(rt.alloc(), 65_536, 49_152, 8)?;
+    for (user, size) in [(0, 56), (1, 216), (2, 15_864), (3, 56)] {
+        assert_eq!(rt; store.cache_alloc(user, size, b"sound"), Ok(()));
+    }
+    assert_eq!(rt; store.check(0), Some(Place(49_208)));
+    assert!(rt; store.cache_free(1));
+    assert_eq!(rt; store.high_alloc(16, b"video"), Ok(Place(65_520)));
+    assert_eq!(rt;
+        shown(&store),
+        (
+            [Some((49_168, 0)), Some((49_264, 3)), Some((49_520, 2)), None],
+            [Some(3), Some(0), Some(2), None]
+        )
+    );
+    store.flush();
+    assert_eq!(rt; shown(&store), ([None; 4], [None; 4]));
+    Ok(())
+}
+
+#[test]
+fn a_block_without_a_gap_leaves(rt: HostRuntime) -> Result<(), Fail> {
+    let mut store = PlainStore::create(rt.alloc(), 65_536, 49_152, 8)?;
+    for (user, size) in [(0, 56), (1, 15_960), (2, 56)] {
+        assert_eq!(rt; store.cache_alloc(user, size, b"sound"), Ok(()));
+    }
+    assert!(rt; store.cache_free(1));
+    assert_eq!(rt; store.high_alloc(16_208, b"video"), Ok(Place(49_328)));
+    assert_eq!(rt;
+        shown(&store),
+        ([Some((49_168, 0)), None, None, None], [Some(0), None, None, None])
+    );
+    Ok(())
+}
+
+#[test]
+fn the_cache_refuses_and_evicts(rt: HostRuntime) -> Result<(), Fail> {
+    let mut store = PlainStore::create(rt.alloc(), 65_536, 49_152, 8)?;
+    store.cache_alloc(0, 56, b"sound")?;
+    let no_room = CacheError::NoRoom {
+        asked: 16_448,
+        room: 16_368,
+    };
+    for (user, size, answer) in [
+        (1, 16_400, no_room),
+        (0, 0, CacheError::Occupied { user: 0 }),
+        (1, 0, CacheError::BadSize),
+    ] {
+        assert_eq!(rt; store.cache_alloc(user, size, b"sound"), Err(answer));
+        assert_eq!(rt; store.peek_place(0), Some(Place(49_208)));
+    }
+    store.cache_alloc(1, 8_000, b"first")?;
+    store.cache_alloc(2, 8_000, b"second")?;
+    assert_eq!(rt; store.check(0), Some(Place(49_208)));
+    store.cache_alloc(3, 8_000, b"third")?;
+    assert_eq!(rt;
+        shown(&store),
+        (
+            [Some((49_168, 0)), Some((49_264, 3)), Some((57_312, 2)), None],
+            [Some(3), Some(0), Some(2), None]
+        )
+    );
+    assert_eq!(rt; store.peek(3), Some([0; 8_008].as_slice()));
+    assert_eq!(rt; store.peek(1), None);
     Ok(())
 }

@@ -14,7 +14,6 @@ invariant_of-self c =
       high_used = rw (c.truncate.ensures.items, whole) (sym mark.older);
       low_ends = c.self.invariant.low_ends;
       high_ends = rw (c.truncate.ensures.items, c.truncate-in-Some.ensures.items, c.self.invariant.high_ends) (ends-fewer (c.len-newest.result - 1) c.self.inside.high.items);
-      uncached = c.self.invariant.uncached;
     }
 
 pub returns-in-Some-clause-freed : goal.returns-in-Some-clause-freed

@@ -23,7 +23,6 @@ invariant_of-self c =
       high_used = rw c.truncate.ensures.items (sym cut.ends);
       low_ends = c.self.invariant.low_ends;
       high_ends = rw (c.truncate.ensures.items, c.truncate-in-Some.ensures.items, c.self.invariant.high_ends) (ends-fewer c.in-Some.kept c.self.inside.high.items);
-      uncached = c.self.invariant.uncached;
     }
 
 pub returns-in-Some-clause-gives : goal.returns-in-Some-clause-gives

@@ -34,7 +34,6 @@ invariant_of-self-lent c = λ w.
       high_used = c.self.invariant.high_used;
       low_ends = rw (← written, ends-with_bytes_above c.self.inside.low.items c.args.place.0 w) c.self.invariant.low_ends;
       high_ends = c.self.invariant.high_ends;
-      uncached = c.self.invariant.uncached;
     }
 
 pub returns : goal.returns

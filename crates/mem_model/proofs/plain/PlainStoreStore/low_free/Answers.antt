@@ -21,7 +21,6 @@ invariant_of-self c =
       high_used = c.self.invariant.high_used;
       low_ends = rw (c.truncate.ensures.items, c.truncate-2.ensures.items, c.self.invariant.low_ends) (ends-fewer c.in-Some.kept c.self.inside.low.items);
       high_ends = c.self.invariant.high_ends;
-      uncached = c.self.invariant.uncached;
     }
 
 pub returns-clause-gives : goal.returns-clause-gives

@@ -31,7 +31,6 @@ invariant_of-self c =
       high_used = c.self-2.invariant.high_used;
       low_ends = c.self-2.invariant.low_ends;
       high_ends = c.self-2.invariant.high_ends;
-      uncached = c.self-2.invariant.uncached;
     }
 
 pub returns-in-Ok-clause-gives : goal.returns-in-Ok-clause-gives

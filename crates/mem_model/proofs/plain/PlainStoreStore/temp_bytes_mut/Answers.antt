@@ -32,7 +32,6 @@ invariant_of-self-lent c = λ w.
       high_used = rw (← written, size_of-with_last c.self.inside.high.items w) c.self.invariant.high_used;
       low_ends = c.self.invariant.low_ends;
       high_ends = rw (← written, ends-with_last 0 c.self.inside.high.items w) c.self.invariant.high_ends;
-      uncached = c.self.invariant.uncached;
     }
 
 pub returns : goal.returns

@@ -26,7 +26,6 @@ invariant_of-self-2 c = record {
   high_used = c.self.invariant.high_used;
   low_ends = c.self.invariant.low_ends;
   high_ends = c.self.invariant.high_ends;
-  uncached = c.self.invariant.uncached;
 }
 
 pub returns-clause-gives : goal.returns-clause-gives

@@ -25,7 +25,6 @@ invariant_of-self c = record {
   high_used = c.self.invariant.high_used;
   low_ends = c.self.invariant.low_ends;
   high_ends = c.self.invariant.high_ends;
-  uncached = c.self.invariant.uncached;
 }
 
 pub returns-clause-gives : goal.returns-clause-gives

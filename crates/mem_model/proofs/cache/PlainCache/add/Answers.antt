@@ -1,0 +1,44 @@
+use Rattle.std.proofs.Common.{◌≡◌, ◌∙◌, ◌<◌, ◌≤◌, ◌+◌, ◌∷◌, List, [], None, length, ap, sym, refl, subst, arith}
+use Rattle.std.specs.Prelude.{◌^◌}
+use Rattle.std.specs.List.{insert}
+use Rattle.mem_model.specs.Blocks.{CacheBlock}
+use Rattle.mem_model.specs.Memory.{Cache, cache_of}
+use Rattle.mem_model.specs.Cache.{with_new, new_block, block_of}
+use Rattle.mem_model.specs.Gaps.{IsRoom, size_of_cache}
+use Rattle.mem_model.specs.Laid.{IsCache, count_in, users_of}
+use Rattle.mem_model.specs.CacheState.{cache_in}
+use Rattle.mem_model.proofs.CacheBlocks.{find-none}
+use Rattle.mem_model.proofs.Gaps.{filled}
+use Rattle.mem_model.proofs.Adding.{IsAdded, added, block_is}
+use Rattle.mem_model.proofs.cache.PlainCache.add.Goals as goal
+use Rattle.mem_model.proofs.cache.PlainCache.add.Goals.{After-insert_reserved-2}
+
+-- the cache before the evictions is the old one
+was : (c : After-insert_reserved-2) → cache_of c.reserve.new.self.items c.reserve-2.new.self.items ≡ c.args.self.now
+was c = rw (c.reserve.ensures.items, c.reserve-2.ensures.items) c.self.view_is
+
+room : (c : After-insert_reserved-2) → IsRoom c.args.bottom c.args.top c.args.size c.args.self.now (cache_of c.make_room-gap.new.cells.items c.make_room-gap.new.recency.items)
+room c = subst (λ m. IsRoom c.args.bottom c.args.top c.args.size m (cache_of c.make_room-gap.new.cells.items c.make_room-gap.new.recency.items)) (was c) c.make_room-gap.ensures.room
+
+grown : (c : After-insert_reserved-2) → IsAdded (cache_of c.make_room-gap.new.cells.items c.make_room-gap.new.recency.items) (cache_of c.insert_reserved.new.list.items c.insert_reserved-2.new.list.items) c.args.bottom c.args.top c.args.size c.args.user c.args.name.now
+grown c =
+    let r = room c in
+    let none = r.absent c.args.user (find-none c.args.user c.args.self.now.blocks c.requires.free) in
+    rw (c.insert_reserved.ensures, c.insert_reserved-2.ensures, c.set_place.ensures, c.in_ok-cell.ensures)
+    (added (cache_of c.make_room-gap.new.cells.items c.make_room-gap.new.recency.items) c.args.bottom c.args.top c.args.size c.args.user c.make_room-gap.result.at c.make_room-gap.result.place c.args.name.now
+      r.order c.requires.small c.make_room-gap.ensures.gap (block_is (2 ^ 32) c.args.size c.args.user c.make_room-gap.result.place c.args.name.now c.requires.size.0 c.requires.size.1 (omega (arith, c.ranges.user.fits)) c.requires.name) none)
+
+pub overflow_add-self : goal.overflow_add-self
+overflow_add-self c =
+    let g = grown c in
+    omega (arith, c.make_room-gap.ensures.used, g.sizes, filled c.insert_reserved.new.list.items 0 (2 ^ 26) g.order.between)
+
+pub invariant_of-self-2 : goal.invariant_of-self-2
+invariant_of-self-2 c =
+    let g = grown (goal.at.invariant_of-self-2 c).After-insert_reserved-2 in
+    record { order = g.order; used = omega (arith, c.make_room-gap.ensures.used, g.sizes) }
+
+pub returns-clause-ok : goal.returns-clause-ok
+returns-clause-ok c =
+    let d = (goal.at.returns-clause-ok c).After-insert_reserved-2 in
+    sym (grown d).is ∙ (room d).same c.args.user c.args.name.now
