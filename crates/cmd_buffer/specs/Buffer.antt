@@ -1,7 +1,7 @@
 -- Commands, cut from the front of a buffer.
 use Rattle.std.specs.Prelude.{◌≡◌, ℕ, ◌%◌, Bool, true, false, ◌&&◌, ◌||◌, ◌==◌, nat_le, if◌then◌else◌, List, [], ◌∷◌, ◌++◌, length, count_by, Option, Some, None}
-use Rattle.cmd_buffer.specs.declared.buffer.Command.{Command}
-use Rattle.cmd_buffer.specs.declared.buffer.Command.TheVariants.{Text, TooLong}
+use Rattle.cmd_buffer.specs.declared.buffer.Taken.{Taken}
+use Rattle.cmd_buffer.specs.declared.buffer.Taken.TheVariants.{Text, TooLong}
 
 -- a command, and what follows it in the buffer
 pub record Cut : Type 0 where
@@ -53,7 +53,7 @@ kept text = if nat_le (length text) 1023 then Some text else None
 abbrev pub first_command : List ℕ → Option (Option (List ℕ))
 first_command buffer = if length buffer == 0 then None else Some (kept (cut buffer).command)
 
--- the text of a command that was taken, or none of one that is too long
-abbrev pub text_of_command : Command → Option (List ℕ)
-text_of_command (Text text) = Some text.items
-text_of_command TooLong = None
+-- the text of what was taken, or none of a command that is too long
+abbrev pub taken_text : List ℕ → Taken → Option (List ℕ)
+taken_text text Text = Some text
+taken_text text TooLong = None

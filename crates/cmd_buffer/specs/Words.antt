@@ -61,6 +61,10 @@ abbrev pub first_words : ℕ → List ℕ → List (List ℕ)
 first_words zero text = []
 first_words (suc n) text = word_and (first_word text) (λ rest. first_words n rest)
 
+-- a word that was found, and then so many words of what follows it
+abbrev pub words_behind : ℕ → Option Word → List (List ℕ)
+words_behind more found = word_and found (λ rest. first_words more rest)
+
 -- the words of a text, of which the first 80 are kept
 unfoldable pub words_of : List ℕ → List (List ℕ)
 words_of text = first_words 80 text

@@ -1,7 +1,7 @@
 // The buffer that command texts are taken from.
 ghost use Rattle.std.specs.Prelude.{◌≡◌, ◌↔◌, ◌<◌, ◌≤◌, ◌+◌, ◌-◌, ◌++◌, ◌==◌, ◌&&◌, ◌||◌, List, [], length, take, drop, option_map, OnOk, OnErr, IsErr};
 ghost use Rattle.arrayvec.specs.ArrayVec.{array_vec_len};
-ghost use Rattle.cmd_buffer.specs.Buffer.{cut, IsCut, first_command, text_of_command, kept};
+ghost use Rattle.cmd_buffer.specs.Buffer.{cut, IsCut, first_command, taken_text, kept};
 
 use arrayvec::ArrayVec;
 use std::marker::Model;
@@ -12,12 +12,15 @@ const SPACE: usize = 8191;
 // How many bytes a command has at most.
 const LONGEST: usize = 1023;
 
-/// A command that was taken from a buffer.
-#[derive(Debug, Drop)]
-pub enum Command {
-    /// The bytes of the command, without the byte that ended it.
-    Text(ArrayVec<u8, 1023>),
-    /// The command had more than 1023 bytes, which are lost.
+/// The bytes of a command that was taken from a buffer, without the byte that ended it.
+pub type CommandText = ArrayVec<u8, 1023>;
+
+/// What was taken from a buffer.
+#[derive(Clone, Copy, Debug, PartialEq, Eq)]
+pub enum Taken {
+    /// A command.
+    Text,
+    /// A command of more than 1023 bytes, which are lost.
     TooLong,
 }
 
@@ -83,12 +86,13 @@ impl CmdBuffer {
         Ok(())
     }
 
-    /// Takes the first command with its end, and answers nothing where there are no bytes.
+    /// Takes the first command with its end into `text`, in the place of what that held, and answers nothing where there are no
+    /// bytes.
     ///
     /// A newline ends a command, and so does `;` behind an even number of `"` in the command; where neither
     /// comes, the command is all that is left. A command of more than 1023 bytes is taken, but too long.
-    pub fn take(&mut self) -> Option<Command>
-        ensures command { option_map text_of_command result ≡ first_command self.old }
+    pub fn take(&mut self, text: &mut CommandText) -> Option<Taken>
+        ensures command { option_map (taken_text text.new.items) result ≡ first_command self.old }
         ensures rest { self.new ≡ (cut self.old).rest }
         ensures shortest { IsCut self.old (cut self.old).command self.new }
     {
@@ -97,9 +101,9 @@ impl CmdBuffer {
             return None;
         }
         let length = command_length(rest);
-        let command = command_of(&rest[..length]);
+        let taken = keep_command(&rest[..length], text);
         self.taken = (self.taken + length + 1).min(self.bytes.len());
-        Some(command)
+        Some(taken)
     }
 
     /// Drops all bytes.
@@ -198,14 +202,14 @@ fn ends_command(even_quotes: bool, byte: u8) -> bool
     byte == b'\n' || (byte == b';' && even_quotes)
 }
 
-// The command of this text.
-fn command_of(text: &[u8]) -> Command
-    ensures { text_of_command result ≡ kept text.now }
+// Keeps the text of a command, where it isn't too long.
+fn keep_command(command: &[u8], text: &mut CommandText) -> Taken
+    ensures { taken_text text.new.items result ≡ kept command.now }
 {
-    if LONGEST < text.len() {
-        return Command::TooLong;
+    if LONGEST < command.len() {
+        return Taken::TooLong;
     }
-    let mut command = ArrayVec::new();
-    command.try_extend_from_slice(text).unwrap();
-    Command::Text(command)
+    text.clear();
+    text.try_extend_from_slice(command).unwrap();
+    Taken::Text
 }

@@ -54,11 +54,12 @@ fn keeps_eighty_words(rt: HostRuntime) {
     }
 }
 
-// Whether this text was taken.
-fn is_text(command: Option<Command>, want: &[u8]) -> bool {
-    match command {
-        Some(Command::Text(text)) => text.as_slice() == want,
-        Some(Command::TooLong) | None => false,
+// Takes a command, and says whether it has this text.
+fn takes(buffer: &mut CmdBuffer, want: &[u8]) -> bool {
+    let mut text = CommandText::new();
+    match buffer.take(&mut text) {
+        Some(Taken::Text) => text.as_slice() == want,
+        Some(Taken::TooLong) | None => false,
     }
 }
 
@@ -79,11 +80,14 @@ fn cuts_commands(rt: HostRuntime) {
         assert_eq!(rt; buffer.add(text.as_bytes()), Ok(()), "at {text:?}");
         for want in first.iter().take(count) {
             assert!(rt;
-                is_text(buffer.take(), want.as_bytes()),
+                takes(&mut buffer, want.as_bytes()),
                 "no {want:?} at {text:?}"
             );
         }
-        assert!(rt; buffer.take().is_none(), "more than {count} at {text:?}");
+        assert!(rt;
+            buffer.take(&mut CommandText::new()).is_none(),
+            "more than {count} at {text:?}"
+        );
     }
 }
 
@@ -91,17 +95,17 @@ fn cuts_commands(rt: HostRuntime) {
 fn keeps_its_order(rt: HostRuntime) {
     let mut buffer = CmdBuffer::create();
     assert_eq!(rt; buffer.add(b"a;b;c"), Ok(()));
-    assert!(rt; is_text(buffer.take(), b"a"));
+    assert!(rt; takes(&mut buffer, b"a"));
     assert_eq!(rt; buffer.insert(b"\n"), Ok(()));
     assert_eq!(rt; buffer.insert(b"x;y"), Ok(()));
     assert_eq!(rt; buffer.add(b"d\n"), Ok(()));
     for want in ["x", "y", "b", "cd"] {
-        assert!(rt; is_text(buffer.take(), want.as_bytes()), "no {want}");
+        assert!(rt; takes(&mut buffer, want.as_bytes()), "no {want}");
     }
     assert_eq!(rt; buffer.used(), 0);
     assert_eq!(rt; buffer.add(b"e"), Ok(()));
     buffer.clear();
-    assert!(rt; buffer.take().is_none());
+    assert!(rt; buffer.take(&mut CommandText::new()).is_none());
 }
 
 #[test]
@@ -116,18 +120,14 @@ fn keeps_its_limits(rt: HostRuntime) {
     assert_eq!(rt; buffer.add(b"y"), Err(Overflow));
     assert_eq!(rt; buffer.insert(b"y"), Err(Overflow));
     assert_eq!(rt; buffer.used(), 8191);
-    assert!(rt; is_text(buffer.take(), b""));
-    assert!(rt; matches!(buffer.take(), Some(Command::TooLong)));
+    assert!(rt; takes(&mut buffer, b""));
+    assert!(rt; matches!(buffer.take(&mut CommandText::new()), Some(Taken::TooLong)));
     assert_eq!(rt; buffer.used(), 0);
     for (length, is_kept) in [(1023, true), (1024, false)] {
         assert_eq!(rt; buffer.add(&text[..length]), Ok(()));
         assert_eq!(rt; buffer.add(b"\nz"), Ok(()));
-        assert_eq!(rt;
-            is_text(buffer.take(), &text[..length]),
-            is_kept,
-            "at {length}"
-        );
-        assert!(rt; is_text(buffer.take(), b"z"), "behind {length}");
+        assert_eq!(rt; takes(&mut buffer, &text[..length]), is_kept, "at {length}");
+        assert!(rt; takes(&mut buffer, b"z"), "behind {length}");
     }
 }
 

@@ -1,31 +1,38 @@
 // The words of a command text.
-ghost use Rattle.std.specs.Prelude.{◌≡◌, ◌≤◌, ◌==◌, not, length, drop, slice_index_or, [], option_map, position};
+ghost use Rattle.std.specs.Prelude.{◌≡◌, ◌≤◌, ◌==◌, ℕ, List, not, length, drop, slice_get, slice_index_or, [], option_map, position};
+ghost use Rattle.std.specs.Borrow.{Bor};
 ghost use Rattle.std.specs.List.{position_or_len, AllByRecursion};
 ghost use Rattle.mem_model.specs.Laid.{IsText};
 ghost use Rattle.cmd_buffer.specs.Words.{is_blank, is_single, ends_word, first_word, word_at_front, words_of, letters_in, found_of};
 
 use std::marker::Model;
 
-// How many words are kept.
-const MOST: usize = 80;
+// How many words behind the first are kept.
+const MORE: usize = 79;
 
-/// The words of a command text, as `tokenize` finds them. Contracts see them as the list of their bytes.
+/// The words of a command text, as `tokenize` finds them. The first is found at once, and the others where they are asked for.
+/// Contracts see them as the list of their bytes.
 #[derive(Debug, Drop)]
 pub struct Words<'a> {
-    text: &'a [u8],
+    first: Option<Found<'a>>,
+    // how many words behind the first are kept at most
+    more: usize,
 }
 
 impl<'a> Model for Words<'a> {
-    ghost use Rattle.std.specs.Prelude.{List, ℕ};
-    ghost use Rattle.cmd_buffer.specs.Words.{words_of};
+    ghost use Rattle.std.specs.Prelude.{List, ℕ, ◌≤◌, option_map};
 
     ghost Value = { List (List ℕ) };
 
-    ghost view = { λ a. words_of a.text.now };
+    ghost use Rattle.cmd_buffer.specs.Words.{words_behind, found_of};
+
+    ghost view = { λ a. words_behind a.more (option_map found_of a.first) };
+
+    ghost invariant = { λ a. a.more ≤ 79 };
 }
 
 // A word, and what follows it.
-#[derive(Clone, Copy)]
+#[derive(Clone, Copy, Debug)]
 struct Found<'a> {
     word: &'a [u8],
     rest: &'a [u8],
@@ -43,34 +50,87 @@ pub fn tokenize(text: &[u8]) -> Words<'_>
     ensures few { length result ≤ 80 }
     ensures sized { letters_in result ≤ length text.now }
 {
-    Words { text }
+    Words {
+        first: next_word(text),
+        more: MORE,
+    }
 }
 
 impl<'a> Words<'a> {
+    /// The first word, where there is one.
+    pub fn first(&self) -> Option<&'a [u8]>
+        ensures { option_map (λ (word : Bor (List ℕ)). word.now) result ≡ slice_get self.now 0 }
+    {
+        match self.first {
+            Some(found) => Some(found.word),
+            None => None,
+        }
+    }
+
+    /// The words behind the first.
+    pub fn rest(&self) -> Words<'a>
+        ensures { result ≡ drop 1 self.now }
+    {
+        let Some(found) = self.first else {
+            return Words {
+                first: None,
+                more: 0,
+            };
+        };
+        if self.more == 0 {
+            return Words {
+                first: None,
+                more: 0,
+            };
+        }
+        Words {
+            first: next_word(found.rest),
+            more: self.more - 1,
+        }
+    }
+
+    /// Whether there is one word.
+    pub fn is_one(&self) -> bool
+        ensures { result ≡ (length self.now == 1) }
+    {
+        self.first.is_some() && self.rest().first.is_none()
+    }
+
     /// How many words there are, at most 80.
     pub fn count(&self) -> usize
         ensures value { result ≡ length self.now }
         ensures kept { result ≤ 80 }
     {
-        let mut rest = self.text;
-        for count in 0..MOST {
+        let Some(found) = self.first else {
+            return 0;
+        };
+        let more = self.more;
+        let mut rest = found.rest;
+        for count in 0..more {
             match next_word(rest) {
                 Some(found) => rest = found.rest,
-                None => return count,
+                None => return count + 1,
             }
         }
-        MOST
+        more + 1
     }
 
     /// The word of this number, counted from 0, or no bytes past the last word.
-    pub fn word(&self, number: usize) -> &[u8]
+    pub fn word(&self, number: usize) -> &'a [u8]
         ensures { result.now ≡ slice_index_or self.now number [] }
     {
-        let mut rest = self.text;
-        if MOST <= number {
+        let Some(found) = self.first else {
+            return &[];
+        };
+        if number == 0 {
+            return found.word;
+        }
+        let more = self.more;
+        if more < number {
             return &[];
         }
-        for _before in 0..number {
+        let mut rest = found.rest;
+        for _before in 1..number {
             match next_word(rest) {
                 Some(found) => rest = found.rest,
                 None => return &[],

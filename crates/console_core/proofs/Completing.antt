@@ -4,14 +4,15 @@ use Rattle.std.specs.Prelude.{◌↔◌}
 use Rattle.outside_io.specs.Causes.{Rose}
 use Rattle.outside_io.specs.Files.{File}
 use Rattle.pack_files.specs.declared.faults.PackFault.{PackFault}
-use Rattle.search_paths.specs.Mounts.{Mount, mounted}
+use Rattle.search_paths.specs.Mounts.{mounted}
 use Rattle.search_paths.specs.Path.{all_some}
 use Rattle.outside_io.specs.Streams.{Took}
 use Rattle.command_line.specs.CommandLine.{IsAsked}
 use Rattle.command_line.specs.declared.words.Request.{Request}
 use Rattle.command_line.proofs.Lines.{one_request, asked_has_no_bad}
 use Rattle.console_core.specs.Reading.{limit}
-use Rattle.console_core.specs.Ends.{Asks, AsksTooMuch, fault_of, Ends, EndsFor, OnPath, HasOutcome, IsComplete}
+use Rattle.console_session.specs.States.{PathSeen}
+use Rattle.console_core.specs.Ends.{path_on, Asks, AsksTooMuch, fault_of, Ends, EndsFor, OnPath, HasOutcome, IsComplete}
 use Rattle.console_core.specs.declared.status.Status.{Status}
 use Rattle.console_core.specs.declared.status.Status.TheVariants.{Done, Usage, OutOfMemory, TooSmall, ScriptFault, BadPack, FolderFault, WriteFault, ScriptTooLong}
 
@@ -29,9 +30,9 @@ not_past taken (Some before) None took size short = absurd (cc)
 not_past taken (Some before) (Some after) took size short = omega (arith, size, took_length taken before after took, short)
 
 -- what is so of a run on a path
-of_path : {run : Option (List Mount) → Type 0} (told : Option (List (List File))) → OnPath told run → (mounts : Option (List Mount)) × run mounts
+of_path : {run : Option PathSeen → Type 0} (told : Option (List (List File))) → OnPath told run → (path : Option PathSeen) × run path
 of_path None is = (None, is)
-of_path (Some folders) is = (Some is.0, is.2)
+of_path (Some folders) is = (Some (path_on folders is.0), is.2)
 
 module _ {F : Type 0} (words : List (List ℕ)) (files_of : F → Option (List File)) (faults_of : F → ℕ) (folders : List F)
     (rest_before rest_now start now : Option (List ℕ)) (script_before script_now sink_before sink_now : ℕ) where

@@ -14,7 +14,7 @@ use Rattle.search_paths.specs.declared.answers.MountError.{MountError}
 use Rattle.search_paths.specs.declared.answers.MountError.TheVariants as error
 use Rattle.search_paths.proofs.FindLaws.{each_is_there}
 use Rattle.search_paths.proofs.MountLaws.{with_folders-append, mounts-mounted}
-use Rattle.console_session.proofs.Following.{if_some, at_some}
+use Rattle.console_core.proofs.Knowing.{if_some, at_some}
 use Rattle.console_core.specs.Ends.{IsPathOf, IsOpened, IsUnopened, OpeningEnds, HandsOver}
 use Rattle.console_core.specs.declared.status.Status.{Status}
 use Rattle.console_core.specs.declared.status.Status.TheVariants.{FolderFault, TooSmall}

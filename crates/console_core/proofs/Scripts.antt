@@ -4,13 +4,14 @@ use Rattle.std.proofs.Common.{inl, inr, Some, None, option_map, ◌≡◌, ◌�
 use Rattle.std.proofs.lemmas.List.{append-nil, take_more, take-append-drop, take_all}
 use Rattle.std.proofs.lemmas.Bool.{eq-eqb, ne_eqb}
 use Rattle.std.proofs.lemmas.Bool.Decides.{eqb_tells}
-use Rattle.search_paths.specs.Mounts.{Mount}
 use Rattle.outside_io.specs.Streams.{Adds, Took}
 use Rattle.outside_io.proofs.Puts.{adds_none, adds_both}
-use Rattle.console_session.specs.States.{State, Reply}
-use Rattle.console_session.specs.Frames.{Ran, stopped, line, texts, IsRun, IsCutShort, Runs}
-use Rattle.console_core.specs.Runs.{joined_runs, go_on, followed, run_lines, byte_run, still_pending, HasNoNewline, Lines, begun, one_byte, lines_of}
+use Rattle.console_session.specs.States.{State, Reply, CutsOff, StillPut}
+use Rattle.console_session.specs.Frames.{Ended, Ran, stopped, line, texts, IsCutShort, BeginsWith, GoesAs, Runs}
+use Rattle.console_core.specs.Runs.{joined_runs, go_on, behind, followed, run_lines, byte_run, still_pending, HasNoNewline, Lines, begun, one_byte, lines_of}
 use Rattle.console_session.specs.declared.ends.Fault.{Fault}
+use Rattle.console_session.specs.declared.ends.Fault.TheVariants as fault
+use Rattle.console_session.proofs.Following.{still_both}
 use Rattle.console_session.proofs.Framing.{texts-append}
 use Rattle.console_core.proofs.Shortening.{take_front, line_short, line_front}
 
@@ -59,79 +60,163 @@ lines_later (b ∷ bs) more = later_byte (b == 10) b (lines_of bs) (lines_of (bs
         later_begun b [] small_rest large large_rest later is = ((begun b large large_rest).whole, refl)
         later_begun b (text ∷ others) small_rest large large_rest later is = (later, ap (λ (ls : List (List ℕ)). (begun b ls large_rest).whole) is)
 
-joined_assoc : (again : Bool) (first next third : Ran) → joined_runs first (go_on again next third) ≡ go_on again (joined_runs first next) third
-joined_assoc true first next third = refl
-joined_assoc false first next third =
-    let run_of : List Reply → Ran = λ (rs : List Reply). record { after = third.after; replies = rs; quit = third.quit } in
-    ap run_of (sym (append_assoc first.replies next.replies third.replies))
+-- what follows a run that is followed itself
+go_on_joined : (quit : Bool) (first second : List Reply) (after : State) (rest : State → Ran) → joined_runs first (go_on quit second after rest) ≡ go_on quit (first ++ second) after rest
+go_on_joined true first second after rest = refl
+go_on_joined false first second after rest =
+    let run_of : List Reply → Ran = λ (rs : List Reply). record { replies = rs; end = (rest after).end } in
+    ap run_of (sym (append_assoc first second (rest after).replies))
 
-go_on_assoc : (quit : Bool) (first next : Ran) (rest : State → Ran) → first.quit ≡ quit → go_on quit first (followed next rest) ≡ followed (go_on quit first next) rest
-go_on_assoc true first next rest is = sym (ap (λ (b : Bool). go_on b first (rest first.after)) is)
-go_on_assoc false first next rest is = joined_assoc next.quit first next (rest next.after)
+behind_joined : (first second : List Reply) (end : Option Ended) (rest : State → Ran) → joined_runs first (behind second end rest) ≡ behind (first ++ second) end rest
+behind_joined first second None rest = refl
+behind_joined first second (Some end) rest = go_on_joined end.quit first second end.after rest
 
-pub run_append : (mounts : List Mount) (s : State) (first second : List (List ℕ)) → run_lines mounts s (first ++ second) ≡ followed (run_lines mounts s first) (λ after. run_lines mounts after second)
-run_append mounts s [] second = refl
-run_append mounts s (text ∷ texts) second =
-    let ran = line mounts s text in
-    ap (λ (next : Ran). go_on ran.quit ran next) (run_append mounts ran.after texts second)
-    ∙ go_on_assoc ran.quit ran (run_lines mounts ran.after texts) (λ after. run_lines mounts after second) refl
+go_on_assoc : (quit : Bool) (replies : List Reply) (after : State) (one two : State → Ran) → go_on quit replies after (λ s. followed (one s) two) ≡ followed (go_on quit replies after one) two
+go_on_assoc true replies after one two = refl
+go_on_assoc false replies after one two = behind_joined replies (one after).replies (one after).end two
+
+behind_assoc : (replies : List Reply) (end : Option Ended) (one two : State → Ran) → behind replies end (λ s. followed (one s) two) ≡ followed (behind replies end one) two
+behind_assoc replies None one two = refl
+behind_assoc replies (Some end) one two = go_on_assoc end.quit replies end.after one two
+
+go_on_same : (quit : Bool) (replies : List Reply) (after : State) (one two : State → Ran) → ((s : State) → one s ≡ two s) → go_on quit replies after one ≡ go_on quit replies after two
+go_on_same true replies after one two same = refl
+go_on_same false replies after one two same = ap (joined_runs replies) (same after)
+
+behind_same : (replies : List Reply) (end : Option Ended) (one two : State → Ran) → ((s : State) → one s ≡ two s) → behind replies end one ≡ behind replies end two
+behind_same replies None one two same = refl
+behind_same replies (Some end) one two same = go_on_same end.quit replies end.after one two same
+
+pub run_append : (s : State) (first second : List (List ℕ)) → run_lines s (first ++ second) ≡ followed (run_lines s first) (λ after. run_lines after second)
+run_append s [] second = refl
+run_append s (text ∷ texts) second =
+    let ran = line text s in
+    behind_same ran.replies ran.end (λ after. run_lines after (texts ++ second)) (λ after. followed (run_lines after texts) (λ last. run_lines last second)) (λ after. run_append after texts second)
+    ∙ behind_assoc ran.replies ran.end (λ after. run_lines after texts) (λ last. run_lines last second)
+
+-- whatever a run did, what stood is only added to
+cut_still : (reply : Reply) (error : Fault) (start now : Option (List ℕ)) → CutsOff reply error start now → StillPut start now
+cut_still reply fault.Write start now part = (take part.0 reply.text, part.2)
+cut_still reply (fault.Folder folder) start now part = ([], subst (λ n. Adds [] start n) (sym part.1) (adds_none start))
+cut_still reply fault.Memory start now part = ([], subst (λ n. Adds [] start n) (sym part.1) (adds_none start))
+
+short_still : (replies : List Reply) (error : Fault) (start now : Option (List ℕ)) → IsCutShort replies error start now → StillPut start now
+short_still replies error start now cut = still_both start cut.mid now (texts cut.before, cut.put) (cut_still cut.reply error cut.mid now cut.part)
+
+begins_still : (replies : List Reply) (start now : Option (List ℕ)) → BeginsWith replies start now → StillPut start now
+begins_still replies start now begins = still_both start begins.mid now (texts replies, begins.put) begins.more
+
+goes_still : (replies : List Reply) (end : Option Ended) (result : Result Bool Fault) (new : State) (start now : Option (List ℕ)) → GoesAs replies end result new start now → StillPut start now
+goes_still replies (Some end) (Ok quit) new start now runs = (texts replies, runs.put)
+goes_still replies (Some end) (Err error) new start now cut = short_still replies error start now cut
+goes_still replies None (Ok quit) new start now begins = begins_still replies start now begins
+goes_still replies None (Err error) new start now (inl cut) = short_still replies error start now cut
+goes_still replies None (Err error) new start now (inr begins) = begins_still replies start now begins
+
+-- replies that were put before
+module _ (first : List Reply) (start mid now : Option (List ℕ)) (put : Adds (texts first) start mid) where
+  puts_more : (replies : List Reply) (last : Option (List ℕ)) → Adds (texts replies) mid last → Adds (texts (first ++ replies)) start last
+  puts_more replies last more = subst (λ t. Adds t start last) (sym (texts-append first replies)) (adds_both (texts first) (texts replies) start mid last put more)
+
+  cut_more : (replies : List Reply) (error : Fault) → IsCutShort replies error mid now → IsCutShort (first ++ replies) error start now
+  cut_more replies error cut = record {
+    before = first ++ cut.before;
+    reply = cut.reply;
+    later = cut.later;
+    split = ap (λ (rs : List Reply). first ++ rs) cut.split ∙ sym (append_assoc first cut.before (cut.reply ∷ cut.later));
+    mid = cut.mid;
+    put = puts_more cut.before cut.mid cut.put;
+    part = cut.part;
+  }
+
+  begins_more : (replies : List Reply) → BeginsWith replies mid now → BeginsWith (first ++ replies) start now
+  begins_more replies begins = record { mid = begins.mid; put = puts_more replies begins.mid begins.put; more = begins.more }
+
+  goes_more : (replies : List Reply) (end : Option Ended) (result : Result Bool Fault) (new : State) → GoesAs replies end result new mid now → GoesAs (first ++ replies) end result new start now
+  goes_more replies (Some end) (Ok quit) new runs = record { quit = runs.quit; after = runs.after; put = puts_more replies now runs.put }
+  goes_more replies (Some end) (Err error) new cut = cut_more replies error cut
+  goes_more replies None (Ok quit) new begins = begins_more replies begins
+  goes_more replies None (Err error) new (inl cut) = inl (cut_more replies error cut)
+  goes_more replies None (Err error) new (inr begins) = inr (begins_more replies begins)
+
+-- a run that lost its end, and whatever came then
+lost_more : (replies : List Reply) (result : Result Bool Fault) (new : State) (start mid now : Option (List ℕ)) → BeginsWith replies start mid → StillPut mid now → GoesAs replies None result new start now
+lost_more replies (Ok quit) new start mid now begins still = record { mid = begins.mid; put = begins.put; more = still_both begins.mid mid now begins.more still }
+lost_more replies (Err error) new start mid now begins still = inr (record { mid = begins.mid; put = begins.put; more = still_both begins.mid mid now begins.more still })
 
 -- a run without `quit`, and then another
-pub both_run : (first : Ran) (rest : State → Ran) (result : Result Bool Fault) (s new : State) (start mid now : Option (List ℕ)) → IsRun first false s start mid → Runs (rest s) result new mid now → Runs (followed first rest) result new start now
-both_run first rest result s new start mid now so_far runs =
-    subst (λ q. Runs (go_on q first (rest first.after)) result new start now) (sym so_far.quit)
-    (joined result (subst (λ a. Runs (rest a) result new mid now) so_far.after runs))
-  where
-    joined : (result : Result Bool Fault) → Runs (rest first.after) result new mid now → Runs (joined_runs first (rest first.after)) result new start now
-    joined (Ok quit) h = record { quit = h.quit; after = h.after; put = subst (λ t. Adds t start now) (sym (texts-append first.replies (rest first.after).replies)) (adds_both (texts first.replies) (texts (rest first.after).replies) start mid now so_far.put h.put) }
-    joined (Err error) h = record {
-      before = first.replies ++ h.before;
-      reply = h.reply;
-      later = h.later;
-      split = ap (λ (rs : List Reply). first.replies ++ rs) h.split ∙ sym (append_assoc first.replies h.before (h.reply ∷ h.later));
-      mid = h.mid;
-      put = subst (λ t. Adds t start h.mid) (sym (texts-append first.replies h.before)) (adds_both (texts first.replies) (texts h.before) start mid h.mid so_far.put h.put);
-      part = h.part;
-    }
+goes_both : (replies : List Reply) (end : Option Ended) (rest : State → Ran) (result : Result Bool Fault) (s new : State) (start mid now : Option (List ℕ)) → GoesAs replies end (Ok false) s start mid → Runs (rest s) result new mid now
+    → Runs (behind replies end rest) result new start now
+goes_both replies None rest result s new start mid now begins runs =
+    lost_more replies result new start mid now begins (goes_still (rest s).replies (rest s).end result new mid now runs)
+goes_both replies (Some end) rest result s new start mid now so_far runs =
+    subst (λ q. Runs (go_on q replies end.after rest) result new start now) (sym so_far.quit)
+    (goes_more replies start mid now so_far.put (rest end.after).replies (rest end.after).end result new (subst (λ a. Runs (rest a) result new mid now) so_far.after runs))
+
+pub both_run : (first : Ran) (rest : State → Ran) (result : Result Bool Fault) (s new : State) (start mid now : Option (List ℕ)) → Runs first (Ok false) s start mid → Runs (rest s) result new mid now → Runs (followed first rest) result new start now
+both_run first rest result s new start mid now so_far runs = goes_both first.replies first.end rest result s new start mid now so_far runs
 
 -- nothing behind a run
-nothing_more : (quit : Bool) (ran : Ran) → ran.quit ≡ quit → followed ran (λ after. stopped after [] false) ≡ ran
-nothing_more true ran is = ap (λ (b : Bool). go_on b ran (stopped ran.after [] false)) is
-nothing_more false ran is =
-    let run_of : List Reply → Bool → Ran = λ (rs : List Reply) (q : Bool). record { after = ran.after; replies = rs; quit = q } in
-    ap (λ (b : Bool). go_on b ran (stopped ran.after [] false)) is ∙ ap (λ (rs : List Reply). run_of rs false) (append-nil ran.replies) ∙ ap (λ (q : Bool). run_of ran.replies q) (sym is)
+nothing_then : (quit : Bool) (replies : List Reply) (after : State) → go_on quit replies after (λ last. stopped last [] false) ≡ stopped after replies quit
+nothing_then true replies after = refl
+nothing_then false replies after =
+    let run_of : List Reply → Ran = λ (rs : List Reply). stopped after rs false in
+    ap run_of (append-nil replies)
 
-more_replies : (quit : Bool) (ran next : Ran) → (extra : List Reply) × ((go_on quit ran next).replies ≡ ran.replies ++ extra)
-more_replies true ran next = ([], sym (append-nil ran.replies))
-more_replies false ran next = (next.replies, refl)
+nothing_behind : (replies : List Reply) (end : Option Ended) → behind replies end (λ after. stopped after [] false) ≡ record { replies = replies; end = end }
+nothing_behind replies None = refl
+nothing_behind replies (Some end) = nothing_then end.quit replies end.after
+
+nothing_more : (ran : Ran) → followed ran (λ after. stopped after [] false) ≡ ran
+nothing_more ran = nothing_behind ran.replies ran.end
 
 -- what follows a run that quit, or that a fault ended
-pub quit_run : (ran : Ran) (rest : State → Ran) (new : State) (start now : Option (List ℕ)) → IsRun ran true new start now → IsRun (followed ran rest) true new start now
-quit_run ran rest new start now runs = subst (λ r. IsRun r true new start now) (sym (ap (λ (b : Bool). go_on b ran (rest ran.after)) runs.quit)) runs
+goes_quit : (replies : List Reply) (end : Option Ended) (rest : State → Ran) (new : State) (start now : Option (List ℕ)) → GoesAs replies end (Ok true) new start now → Runs (behind replies end rest) (Ok true) new start now
+goes_quit replies None rest new start now begins = begins
+goes_quit replies (Some end) rest new start now runs =
+    let here : Runs (go_on true replies end.after rest) (Ok true) new start now = record { quit = refl; after = runs.after; put = runs.put } in
+    subst (λ q. Runs (go_on q replies end.after rest) (Ok true) new start now) (sym runs.quit) here
 
-pub cut_run : (ran : Ran) (rest : State → Ran) (error : Fault) (start now : Option (List ℕ)) → IsCutShort ran.replies error start now → IsCutShort (followed ran rest).replies error start now
-cut_run ran rest error start now cut =
-    let extra = more_replies ran.quit ran (rest ran.after) in
-    record {
-      before = cut.before;
-      reply = cut.reply;
-      later = cut.later ++ extra.0;
-      split = extra.1 ∙ ap (λ (rs : List Reply). rs ++ extra.0) cut.split ∙ append_assoc cut.before (cut.reply ∷ cut.later) extra.0;
-      mid = cut.mid;
-      put = cut.put;
-      part = cut.part;
-    }
+pub quit_run : (ran : Ran) (rest : State → Ran) (new : State) (start now : Option (List ℕ)) → Runs ran (Ok true) new start now → Runs (followed ran rest) (Ok true) new start now
+quit_run ran rest new start now runs = goes_quit ran.replies ran.end rest new start now runs
+
+cut_before : (replies more : List Reply) (error : Fault) (start now : Option (List ℕ)) → IsCutShort replies error start now → IsCutShort (replies ++ more) error start now
+cut_before replies more error start now cut = record {
+  before = cut.before;
+  reply = cut.reply;
+  later = cut.later ++ more;
+  split = ap (λ (rs : List Reply). rs ++ more) cut.split ∙ append_assoc cut.before (cut.reply ∷ cut.later) more;
+  mid = cut.mid;
+  put = cut.put;
+  part = cut.part;
+}
+
+goes_cut : (replies : List Reply) (end : Option Ended) (error : Fault) (new : State) (start now : Option (List ℕ)) → IsCutShort replies error start now → GoesAs replies end (Err error) new start now
+goes_cut replies (Some end) error new start now cut = cut
+goes_cut replies None error new start now cut = inl cut
+
+go_on_cut : (quit : Bool) (replies : List Reply) (after : State) (rest : State → Ran) (error : Fault) (new : State) (start now : Option (List ℕ)) → IsCutShort replies error start now → Runs (go_on quit replies after rest) (Err error) new start now
+go_on_cut true replies after rest error new start now cut = cut
+go_on_cut false replies after rest error new start now cut = goes_cut (replies ++ (rest after).replies) (rest after).end error new start now (cut_before replies (rest after).replies error start now cut)
+
+behind_cut : (replies : List Reply) (end : Option Ended) (rest : State → Ran) (error : Fault) (new : State) (start now : Option (List ℕ)) → GoesAs replies end (Err error) new start now → Runs (behind replies end rest) (Err error) new start now
+behind_cut replies None rest error new start now runs = runs
+behind_cut replies (Some end) rest error new start now cut = go_on_cut end.quit replies end.after rest error new start now cut
+
+pub cut_run : (ran : Ran) (rest : State → Ran) (error : Fault) (new : State) (start now : Option (List ℕ)) → Runs ran (Err error) new start now → Runs (followed ran rest) (Err error) new start now
+cut_run ran rest error new start now cut = behind_cut ran.replies ran.end rest error new start now cut
 
 -- a text without a newline has no whole line
 lone : (text : List ℕ) → HasNoNewline text → lines_of text ≡ record { whole = []; rest = text }
 lone [] none = refl
 lone (byte ∷ bytes) none = ap (λ (t : Bool). one_byte t byte (lines_of bytes)) none.0 ∙ ap (λ (lines : Lines). one_byte false byte lines) (lone bytes none.1)
 
-pub start_run : (mounts : List Mount) (s : State) (pending : List ℕ) (start : Option (List ℕ)) → HasNoNewline pending → IsRun (run_lines mounts s (lines_of (pending ++ [])).whole) false s start start
-start_run mounts s pending start no_newline =
+pub start_run : (s : State) (pending : List ℕ) (start : Option (List ℕ)) → HasNoNewline pending → Runs (run_lines s (lines_of (pending ++ [])).whole) (Ok false) s start start
+start_run s pending start no_newline =
     let is = lone pending no_newline in
     let none : (lines_of (pending ++ [])).whole ≡ [] = ap (λ (t : List ℕ). (lines_of t).whole) (append-nil pending) ∙ ap (λ (l : Lines). l.whole) is in
-    subst (λ ls. IsRun (run_lines mounts s ls) false s start start) (sym none) (record { quit = refl; after = refl; put = adds_none start })
+    let here : Runs (run_lines s []) (Ok false) s start start = record { quit = refl; after = refl; put = adds_none start } in
+    subst (λ ls. Runs (run_lines s ls) (Ok false) s start start) (sym none) here
 
 pub start_rest : (pending : List ℕ) → length pending ≤ 8192 → HasNoNewline pending → pending ≡ take 8192 (lines_of (pending ++ [])).rest
 start_rest pending short no_newline =
@@ -151,42 +236,45 @@ rest_more taken pending byte is = elim (eqb_tells byte 10) [
   | inr off ↦ rw off.0 (ap (λ (p : List ℕ). take 8192 (p ++ byte ∷ [])) is ∙ take_front 8192 (lines_of taken).rest (byte ∷ []) ∙ sym (ap (λ (l : Lines). take 8192 l.rest) (lines_more taken byte off.1)))
 ]
 
-module _ (mounts : List Mount) (first s new : State) (taken : List ℕ) (byte : ℕ) (start mid now : Option (List ℕ)) (so_far : IsRun (run_lines mounts first (lines_of taken).whole) false s start mid) (pending : List ℕ) (pending_is : pending ≡ take 8192 (lines_of taken).rest) where
+module _ (first s new : State) (taken : List ℕ) (byte : ℕ) (start mid now : Option (List ℕ)) (so_far : Runs (run_lines first (lines_of taken).whole) (Ok false) s start mid) (pending : List ℕ) (pending_is : pending ≡ take 8192 (lines_of taken).rest) where
   -- a byte more was taken, and its line was run where it ends one
-  pub byte_runs : (result : Result Bool Fault) → Runs (byte_run mounts s pending byte) result new mid now → Runs (run_lines mounts first (lines_of (taken ++ byte ∷ [])).whole) result new start now
+  pub byte_runs : (result : Result Bool Fault) → Runs (byte_run s pending byte) result new mid now → Runs (run_lines first (lines_of (taken ++ byte ∷ [])).whole) result new start now
   byte_runs result runs = elim (eqb_tells byte 10) [
     | inl at ↦
-        let line_runs : Runs (line mounts s pending) result new mid now = rw at.0 at runs in
-        let kept : Runs (line mounts s (take 8192 (lines_of taken).rest)) result new mid now = subst (λ p. Runs (line mounts s p) result new mid now) pending_is line_runs in
-        let here : Runs (line mounts s (lines_of taken).rest) result new mid now = subst (λ r. Runs r result new mid now) (line_short mounts s (lines_of taken).rest) kept in
-        let ran = line mounts s (lines_of taken).rest in
-        let alone : Runs (followed ran (λ after. stopped after [] false)) result new mid now = subst (λ r. Runs r result new mid now) (sym (nothing_more ran.quit ran refl)) here in
-        subst (λ ls. Runs (run_lines mounts first ls) result new start now) (sym (ap (λ (l : Lines). l.whole) (lines_newline taken byte at.1)))
-        (subst (λ r. Runs r result new start now) (sym (run_append mounts first (lines_of taken).whole ((lines_of taken).rest ∷ [])))
-        (both_run (run_lines mounts first (lines_of taken).whole) (λ after. run_lines mounts after ((lines_of taken).rest ∷ [])) result s new start mid now so_far alone))
+        let line_runs : Runs (line pending s) result new mid now = rw at.0 at runs in
+        let kept : Runs (line (take 8192 (lines_of taken).rest) s) result new mid now = subst (λ p. Runs (line p s) result new mid now) pending_is line_runs in
+        let here : Runs (line (lines_of taken).rest s) result new mid now = subst (λ r. Runs r result new mid now) (line_short s (lines_of taken).rest) kept in
+        let ran = line (lines_of taken).rest s in
+        let alone : Runs (followed ran (λ after. stopped after [] false)) result new mid now = subst (λ r. Runs r result new mid now) (sym (nothing_more ran)) here in
+        subst (λ ls. Runs (run_lines first ls) result new start now) (sym (ap (λ (l : Lines). l.whole) (lines_newline taken byte at.1)))
+        (subst (λ r. Runs r result new start now) (sym (run_append first (lines_of taken).whole ((lines_of taken).rest ∷ [])))
+        (both_run (run_lines first (lines_of taken).whole) (λ after. run_lines after ((lines_of taken).rest ∷ [])) result s new start mid now so_far alone))
     | inr off ↦
         let none_runs : Runs (stopped s [] false) result new mid now = rw off.0 at runs in
-        subst (λ ls. Runs (run_lines mounts first ls) result new start now) (sym (ap (λ (l : Lines). l.whole) (lines_more taken byte off.1)))
-        (subst (λ r. Runs r result new start now) (nothing_more false (run_lines mounts first (lines_of taken).whole) so_far.quit)
-        (both_run (run_lines mounts first (lines_of taken).whole) (λ after. stopped after [] false) result s new start mid now so_far none_runs))
+        subst (λ ls. Runs (run_lines first ls) result new start now) (sym (ap (λ (l : Lines). l.whole) (lines_more taken byte off.1)))
+        (subst (λ r. Runs r result new start now) (nothing_more (run_lines first (lines_of taken).whole))
+        (both_run (run_lines first (lines_of taken).whole) (λ after. stopped after [] false) result s new start mid now so_far none_runs))
   ]
 
   -- the same before bytes that are not run
-  pub byte_quits : (all more : List ℕ) → all ≡ (taken ++ byte ∷ []) ++ more → IsRun (byte_run mounts s pending byte) true new mid now → IsRun (run_lines mounts first (lines_of all).whole) true new start now
-  byte_quits all more is runs =
-      let later = lines_later (taken ++ byte ∷ []) more in
-      let whole_is : (lines_of all).whole ≡ (lines_of (taken ++ byte ∷ [])).whole ++ later.0 = ap (λ (t : List ℕ). (lines_of t).whole) is ∙ later.1 in
-      subst (λ ls. IsRun (run_lines mounts first ls) true new start now) (sym whole_is)
-      (subst (λ r. IsRun r true new start now) (sym (run_append mounts first (lines_of (taken ++ byte ∷ [])).whole later.0))
-      (quit_run (run_lines mounts first (lines_of (taken ++ byte ∷ [])).whole) (λ after. run_lines mounts after later.0) new start now (byte_runs (Ok true) runs)))
+  module _ (all more : List ℕ) (is : all ≡ (taken ++ byte ∷ []) ++ more) where
+    later : (texts : List (List ℕ)) × ((lines_of ((taken ++ byte ∷ []) ++ more)).whole ≡ (lines_of (taken ++ byte ∷ [])).whole ++ texts)
+    later = lines_later (taken ++ byte ∷ []) more
 
-  pub byte_cuts : (all more : List ℕ) (error : Fault) → all ≡ (taken ++ byte ∷ []) ++ more → IsCutShort (byte_run mounts s pending byte).replies error mid now → IsCutShort (run_lines mounts first (lines_of all).whole).replies error start now
-  byte_cuts all more error is cut =
-      let later = lines_later (taken ++ byte ∷ []) more in
-      let whole_is : (lines_of all).whole ≡ (lines_of (taken ++ byte ∷ [])).whole ++ later.0 = ap (λ (t : List ℕ). (lines_of t).whole) is ∙ later.1 in
-      subst (λ ls. IsCutShort (run_lines mounts first ls).replies error start now) (sym whole_is)
-      (subst (λ (r : Ran). IsCutShort r.replies error start now) (sym (run_append mounts first (lines_of (taken ++ byte ∷ [])).whole later.0))
-      (cut_run (run_lines mounts first (lines_of (taken ++ byte ∷ [])).whole) (λ after. run_lines mounts after later.0) error start now (byte_runs (Err error) cut)))
+    all_run : run_lines first (lines_of all).whole ≡ followed (run_lines first (lines_of (taken ++ byte ∷ [])).whole) (λ after. run_lines after later.0)
+    all_run =
+        ap (λ (t : List ℕ). run_lines first (lines_of t).whole) is ∙ ap (λ (ls : List (List ℕ)). run_lines first ls) later.1
+        ∙ run_append first (lines_of (taken ++ byte ∷ [])).whole later.0
+
+    pub byte_quits : Runs (byte_run s pending byte) (Ok true) new mid now → Runs (run_lines first (lines_of all).whole) (Ok true) new start now
+    byte_quits runs =
+        subst (λ r. Runs r (Ok true) new start now) (sym all_run)
+        (quit_run (run_lines first (lines_of (taken ++ byte ∷ [])).whole) (λ after. run_lines after later.0) new start now (byte_runs (Ok true) runs))
+
+    pub byte_cuts : (error : Fault) → Runs (byte_run s pending byte) (Err error) new mid now → Runs (run_lines first (lines_of all).whole) (Err error) new start now
+    byte_cuts error cut =
+        subst (λ r. Runs r (Err error) new start now) (sym all_run)
+        (cut_run (run_lines first (lines_of (taken ++ byte ∷ [])).whole) (λ after. run_lines after later.0) error new start now (byte_runs (Err error) cut))
 
 -- the lines of a rest, and then of more bytes
 abbrev pub lines_then : Lines → List ℕ → Lines
@@ -262,25 +350,25 @@ none_in_front (suc n) (byte ∷ bytes) none = (none.0, none_in_front n bytes non
 pub is_pending : (taken pending : List ℕ) → pending ≡ take 8192 (lines_of taken).rest → HasNoNewline pending
 is_pending taken pending is = subst HasNoNewline (sym is) (none_in_front 8192 (lines_of taken).rest (none_in_rest taken))
 
-first_short : (mounts : List Mount) (s : State) (front : List ℕ) (whole : List (List ℕ)) → run_lines mounts s (front_of (take 8192 front) whole) ≡ run_lines mounts s (front_of front whole)
+first_short : (s : State) (front : List ℕ) (whole : List (List ℕ)) → run_lines s (front_of (take 8192 front) whole) ≡ run_lines s (front_of front whole)
 unfolding front_of
-first_short mounts s front [] = refl
-first_short mounts s front (text ∷ texts) = ap (λ (ran : Ran). followed ran (λ after. run_lines mounts after texts)) (line_front mounts s front text)
+first_short s front [] = refl
+first_short s front (text ∷ texts) = ap (λ (ran : Ran). followed ran (λ after. run_lines after texts)) (line_front s front text)
 
 rest_short : (front : List ℕ) (whole : List (List ℕ)) (rest : List ℕ) → take 8192 (rest_of (take 8192 front) whole rest) ≡ take 8192 (rest_of front whole rest)
 unfolding rest_of
 rest_short front [] rest = take_front 8192 front rest
 rest_short front (text ∷ texts) rest = refl
 
-module _ (mounts : List Mount) (s : State) (front more : List ℕ) (none : HasNoNewline front) where
+module _ (s : State) (front more : List ℕ) (none : HasNoNewline front) where
   kept_behind : lines_of (take 8192 front ++ more) ≡ record { whole = front_of (take 8192 front) (lines_of more).whole; rest = rest_of (take 8192 front) (lines_of more).whole (lines_of more).rest }
   kept_behind = lines_behind (take 8192 front) more (none_in_front 8192 front none)
 
   -- the lines behind what is kept run as those behind all of it
-  kept_runs : run_lines mounts s (lines_of (take 8192 front ++ more)).whole ≡ run_lines mounts s (lines_of (front ++ more)).whole
+  kept_runs : run_lines s (lines_of (take 8192 front ++ more)).whole ≡ run_lines s (lines_of (front ++ more)).whole
   kept_runs =
-      ap (λ (lines : Lines). run_lines mounts s lines.whole) kept_behind ∙ first_short mounts s front (lines_of more).whole
-      ∙ sym (ap (λ (lines : Lines). run_lines mounts s lines.whole) (lines_behind front more none))
+      ap (λ (lines : Lines). run_lines s lines.whole) kept_behind ∙ first_short s front (lines_of more).whole
+      ∙ sym (ap (λ (lines : Lines). run_lines s lines.whole) (lines_behind front more none))
 
   kept_rest : take 8192 (lines_of (take 8192 front ++ more)).rest ≡ take 8192 (lines_of (front ++ more)).rest
   kept_rest =
@@ -288,20 +376,20 @@ module _ (mounts : List Mount) (s : State) (front more : List ℕ) (none : HasNo
       ∙ sym (ap (λ (lines : Lines). take 8192 lines.rest) (lines_behind front more none))
 
 -- a piece more was taken, and its whole lines were run
-pub piece_runs : (mounts : List Mount) (first s new : State) (taken piece pending : List ℕ) (result : Result Bool Fault) (start mid now : Option (List ℕ)) → IsRun (run_lines mounts first (lines_of taken).whole) false s start mid → pending ≡ take 8192 (lines_of taken).rest
-    → Runs (run_lines mounts s (lines_of (pending ++ piece)).whole) result new mid now → Runs (run_lines mounts first (lines_of (taken ++ piece)).whole) result new start now
-piece_runs mounts first s new taken piece pending result start mid now so_far is runs =
+pub piece_runs : (first s new : State) (taken piece pending : List ℕ) (result : Result Bool Fault) (start mid now : Option (List ℕ)) → Runs (run_lines first (lines_of taken).whole) (Ok false) s start mid → pending ≡ take 8192 (lines_of taken).rest
+    → Runs (run_lines s (lines_of (pending ++ piece)).whole) result new mid now → Runs (run_lines first (lines_of (taken ++ piece)).whole) result new start now
+piece_runs first s new taken piece pending result start mid now so_far is runs =
     let rest = (lines_of taken).rest in
-    let kept : Runs (run_lines mounts s (lines_of (take 8192 rest ++ piece)).whole) result new mid now = subst (λ p. Runs (run_lines mounts s (lines_of (p ++ piece)).whole) result new mid now) is runs in
-    let here : Runs (run_lines mounts s (lines_of (rest ++ piece)).whole) result new mid now = subst (λ r. Runs r result new mid now) (kept_runs mounts s rest piece (none_in_rest taken)) kept in
+    let kept : Runs (run_lines s (lines_of (take 8192 rest ++ piece)).whole) result new mid now = subst (λ p. Runs (run_lines s (lines_of (p ++ piece)).whole) result new mid now) is runs in
+    let here : Runs (run_lines s (lines_of (rest ++ piece)).whole) result new mid now = subst (λ r. Runs r result new mid now) (kept_runs s rest piece (none_in_rest taken)) kept in
     let more : List (List ℕ) = (lines_of (rest ++ piece)).whole in
-    subst (λ ls. Runs (run_lines mounts first ls) result new start now) (sym (ap (λ (l : Lines). l.whole) (lines_append taken piece)))
-    (subst (λ r. Runs r result new start now) (sym (run_append mounts first (lines_of taken).whole more))
-    (both_run (run_lines mounts first (lines_of taken).whole) (λ after. run_lines mounts after more) result s new start mid now so_far here))
+    subst (λ ls. Runs (run_lines first ls) result new start now) (sym (ap (λ (l : Lines). l.whole) (lines_append taken piece)))
+    (subst (λ r. Runs r result new start now) (sym (run_append first (lines_of taken).whole more))
+    (both_run (run_lines first (lines_of taken).whole) (λ after. run_lines after more) result s new start mid now so_far here))
 
-pub piece_rest : (mounts : List Mount) (taken piece pending now : List ℕ) (s : State) → pending ≡ take 8192 (lines_of taken).rest → now ≡ take 8192 (lines_of (pending ++ piece)).rest → now ≡ take 8192 (lines_of (taken ++ piece)).rest
-piece_rest mounts taken piece pending now s is now_is =
-    now_is ∙ ap (λ (p : List ℕ). take 8192 (lines_of (p ++ piece)).rest) is ∙ kept_rest mounts s (lines_of taken).rest piece (none_in_rest taken) ∙ sym (ap (λ (l : Lines). take 8192 l.rest) (lines_append taken piece))
+pub piece_rest : (taken piece pending now : List ℕ) (s : State) → pending ≡ take 8192 (lines_of taken).rest → now ≡ take 8192 (lines_of (pending ++ piece)).rest → now ≡ take 8192 (lines_of (taken ++ piece)).rest
+piece_rest taken piece pending now s is now_is =
+    now_is ∙ ap (λ (p : List ℕ). take 8192 (lines_of (p ++ piece)).rest) is ∙ kept_rest s (lines_of taken).rest piece (none_in_rest taken) ∙ sym (ap (λ (l : Lines). take 8192 l.rest) (lines_append taken piece))
 
 -- a piece that was taken, behind what was taken before
 pub took_more : (taken piece : List ℕ) (start mid now : Option (List ℕ)) → Took taken start mid → Took piece mid now → Took (taken ++ piece) start now

@@ -4,7 +4,6 @@ use Rattle.std.proofs.Common.{◌≡◌, ℕ, ◌+◌, ◌≤◌, List, [], ◌�
 use Rattle.std.specs.Prelude.{◌⊎◌}
 use Rattle.std.proofs.lemmas.Bool.{lt-leb}
 use Rattle.std.proofs.lemmas.Bool.Decides.{eqb_tells}
-use Rattle.search_paths.specs.Mounts.{Mount}
 use Rattle.base_fields.specs.Texts.{until_zero}
 use Rattle.console_session.specs.States.{State}
 use Rattle.console_session.specs.Commands.{fits_in}
@@ -35,27 +34,27 @@ cut_same (suc n) (byte ∷ bytes) = elim (eqb_tells byte 0) [
 ]
 
 -- a line that is longer than the buffer
-line_long : (mounts : List Mount) (s : State) (text : List ℕ) → 8192 ≤ length (until_zero text) → line mounts s text ≡ overflowed mounts s
+line_long : (s : State) (text : List ℕ) → 8192 ≤ length (until_zero text) → line text s ≡ overflowed s
 unfolding line
-line_long mounts s text long =
+line_long s text long =
     let size : length (input text) ≡ length (until_zero text) + 1 = length-append (until_zero text) (10 ∷ []) in
     let no_room : fits_in (input text) s.buffer ≡ false = lt-leb (length s.buffer + length (input text)) 8191 (omega (arith, size)) in
-    ap (λ (t : Bool). if t then frame false mounts 4096 (record s { buffer = s.buffer ++ input text }) else overflowed mounts s) no_room
+    ap (λ (t : Bool). if t then frame false 4096 (record s { buffer = s.buffer ++ input text }) else overflowed s) no_room
 
 -- a line that has the same bytes before its first zero
-line_same : (mounts : List Mount) (s : State) (text other : List ℕ) → until_zero text ≡ until_zero other → line mounts s text ≡ line mounts s other
+line_same : (s : State) (text other : List ℕ) → until_zero text ≡ until_zero other → line text s ≡ line other s
 unfolding line
-line_same mounts s text other same =
-    let ran : List ℕ → Ran = λ (t : List ℕ). if fits_in (t ++ 10 ∷ []) s.buffer then frame false mounts 4096 (record s { buffer = s.buffer ++ (t ++ 10 ∷ []) }) else overflowed mounts s in
+line_same s text other same =
+    let ran : List ℕ → Ran = λ (t : List ℕ). if fits_in (t ++ 10 ∷ []) s.buffer then frame false 4096 (record s { buffer = s.buffer ++ (t ++ 10 ∷ []) }) else overflowed s in
     ap ran same
 
-pub line_short : (mounts : List Mount) (s : State) (text : List ℕ) → line mounts s (take 8192 text) ≡ line mounts s text
-line_short mounts s text = elim (cut_same 8192 text) [
-  | inl same ↦ line_same mounts s (take 8192 text) text same
-  | inr long ↦ line_long mounts s (take 8192 text) long.0 ∙ sym (line_long mounts s text long.1)
+pub line_short : (s : State) (text : List ℕ) → line (take 8192 text) s ≡ line text s
+line_short s text = elim (cut_same 8192 text) [
+  | inl same ↦ line_same s (take 8192 text) text same
+  | inr long ↦ line_long s (take 8192 text) long.0 ∙ sym (line_long s text long.1)
 ]
 
 -- the same before more bytes
-pub line_front : (mounts : List Mount) (s : State) (front text : List ℕ) → line mounts s (take 8192 front ++ text) ≡ line mounts s (front ++ text)
-line_front mounts s front text =
-    sym (line_short mounts s (take 8192 front ++ text)) ∙ ap (λ (t : List ℕ). line mounts s t) (take_front 8192 front text) ∙ line_short mounts s (front ++ text)
+pub line_front : (s : State) (front text : List ℕ) → line (take 8192 front ++ text) s ≡ line (front ++ text) s
+line_front s front text =
+    sym (line_short s (take 8192 front ++ text)) ∙ ap (λ (t : List ℕ). line t s) (take_front 8192 front text) ∙ line_short s (front ++ text)

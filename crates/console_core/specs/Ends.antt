@@ -1,5 +1,5 @@
 -- How a run ends.
-use Rattle.std.specs.Prelude.{◌≡◌, ◌↔◌, ◌<◌, ◌≤◌, ◌+◌, ◌-◌, ◌*◌, ◌⊎◌, ◌++◌, ◌∷◌, ℕ, List, [], length, take, drop, map, slice_get, slice_index, ⊤, true, false, Option, Some, None, Result, Ok, Err, IfSome, IfOk, IsOk, IsOkAnd, IsErr, codes, decimal}
+use Rattle.std.specs.Prelude.{◌≡◌, ◌↔◌, ◌<◌, ◌≤◌, ◌+◌, ◌-◌, ◌*◌, ◌⊎◌, ◌++◌, ◌∷◌, ℕ, List, [], length, take, drop, map, slice_get, slice_index, ⊤, true, false, Option, Some, None, Result, Ok, Err, option_map, IfSome, IfOk, IsOk, IsOkAnd, IsErr, codes, decimal}
 use Rattle.outside_io.specs.Causes.{Rose}
 use Rattle.outside_io.specs.Files.{File}
 use Rattle.outside_io.specs.Streams.{Adds, Took}
@@ -7,9 +7,9 @@ use Rattle.command_line.specs.CommandLine.{IsAsked, IsFirstBad}
 use Rattle.command_line.specs.declared.words.Request.{Request}
 use Rattle.mem_model.specs.Memory.{new_memory}
 use Rattle.mem_model.specs.Places.{hunk_need}
-use Rattle.console_session.specs.States.{State, started}
+use Rattle.console_session.specs.States.{State, PathSeen, started}
 use Rattle.console_session.specs.Frames.{texts, IsCutShort}
-use Rattle.console_core.specs.Runs.{run_lines, lines_of, run}
+use Rattle.console_core.specs.Runs.{quit_at, run_lines, lines_of, run}
 use Rattle.console_core.specs.Reading.{limit}
 use Rattle.pack_files.specs.declared.faults.PackFault.{PackFault}
 use Rattle.pack_files.specs.declared.faults.PackFault.TheVariants.{NotPack, TooMany, DirOutside}
@@ -79,43 +79,51 @@ abbrev pub AsksTooMuch : Request → Type 0
 AsksTooMuch request = 1024 * request.heap < hunk_need (1024 * request.zone)
 
 -- the state at the start, with a heap and a zone of so many KB, and 768 cache users
-abbrev pub first_state : Request → State
-first_state request = started (new_memory (1024 * request.heap) (1024 * request.zone) 768 0)
+abbrev pub first_state : Request → PathSeen → State
+first_state request path = started (new_memory (1024 * request.heap) (1024 * request.zone) 768 0) path
+
+-- what is seen of a path of these folders, whose mounts these are
+abbrev pub path_on : List (List File) → List Mount → PathSeen
+path_on folders mounts = record { rows = map (λ mount. mount.row) mounts; mounts = map Some mounts; told = map Some folders }
+
+-- a state all of whose mounts are told
+abbrev pub told_state : State → Option State
+told_state s = option_map (λ mounts. s) (all_some s.path.mounts)
 
 -- The replies of the run over the whole script were put, up to `quit` where that was executed. The script was taken to its
 -- end, or what was taken holds the line in whose frame `quit` was executed.
-pub record IsWhole (told : Option (List Mount)) (first : State) (rest_before rest_now start now : Option (List ℕ)) : Type 0 where
+pub record IsWhole (first : Option State) (rest_before rest_now start now : Option (List ℕ)) : Type 0 where
   pub taken : List ℕ
   pub took : Took taken rest_before rest_now
   pub size : length taken ≤ limit
-  pub put : IfSome told (λ mounts. IfSome rest_before (λ script. Adds (texts (run mounts first script).replies) start now))
-  pub all : IfSome rest_now (λ left. left ≡ []) ⊎ IfSome told (λ mounts. (run_lines mounts first (lines_of taken).whole).quit ≡ true)
+  pub put : IfSome first (λ s. IfSome rest_before (λ script. Adds (texts (run s script).replies) start now))
+  pub all : IfSome rest_now (λ left. left ≡ []) ⊎ IfSome first (λ s. quit_at (run_lines s (lines_of taken).whole).end ≡ Some true)
 
 -- a fault ended the run over the whole script in one of its replies
-pub record IsCutAt (fault : Fault) (told : Option (List Mount)) (first : State) (rest_before rest_now start now : Option (List ℕ)) : Type 0 where
+pub record IsCutAt (fault : Fault) (first : Option State) (rest_before rest_now start now : Option (List ℕ)) : Type 0 where
   pub taken : List ℕ
   pub took : Took taken rest_before rest_now
   pub size : length taken ≤ limit
-  pub put : IfSome told (λ mounts. IfSome rest_before (λ script. IsCutShort (run mounts first script).replies fault start now))
+  pub put : IfSome first (λ s. IfSome rest_before (λ script. IsCutShort (run s script).replies fault start now))
 
 -- the replies over the whole lines of these bytes were put, and `quit` was executed in no frame of them
-pub record LinesWerePut (mounts : List Mount) (first : State) (bytes : List ℕ) (start now : Option (List ℕ)) : Type 0 where
-  pub quit : (run_lines mounts first (lines_of bytes).whole).quit ≡ false
-  pub put : Adds (texts (run_lines mounts first (lines_of bytes).whole).replies) start now
+pub record LinesWerePut (first : State) (bytes : List ℕ) (start now : Option (List ℕ)) : Type 0 where
+  pub quit : quit_at (run_lines first (lines_of bytes).whole).end ≡ Some false
+  pub put : Adds (texts (run_lines first (lines_of bytes).whole).replies) start now
 
 -- a read failed behind these bytes, whose whole lines were run
-pub record IsFailed (told : Option (List Mount)) (first : State) (rest_before rest_now start now : Option (List ℕ)) : Type 0 where
+pub record IsFailed (first : Option State) (rest_before rest_now start now : Option (List ℕ)) : Type 0 where
   pub taken : List ℕ
   pub took : Took taken rest_before rest_now
   pub size : length taken ≤ limit
-  pub put : IfSome told (λ mounts. LinesWerePut mounts first taken start now)
+  pub put : IfSome first (λ s. LinesWerePut s taken start now)
 
 -- a byte past the limit was taken, and the whole lines of the bytes before it were run
-pub record IsPastLimit (told : Option (List Mount)) (first : State) (rest_before rest_now start now : Option (List ℕ)) : Type 0 where
+pub record IsPastLimit (first : Option State) (rest_before rest_now start now : Option (List ℕ)) : Type 0 where
   pub taken : List ℕ
   pub took : Took taken rest_before rest_now
   pub size : length taken ≡ limit + 1
-  pub put : IfSome told (λ mounts. LinesWerePut mounts first (take limit taken) start now)
+  pub put : IfSome first (λ s. LinesWerePut s (take limit taken) start now)
 
 -- nothing was taken and nothing was put
 pub record IsUntouched (rest_before rest_now start now : Option (List ℕ)) : Type 0 where
@@ -123,19 +131,20 @@ pub record IsUntouched (rest_before rest_now start now : Option (List ℕ)) : Ty
   pub put : now ≡ start
 
 -- What is so of the run on the path of these folders, which has no bad pack, where they tell their files.
-abbrev pub OnPath : Option (List (List File)) → (Option (List Mount) → Type 0) → Type 0
+abbrev pub OnPath : Option (List (List File)) → (Option PathSeen → Type 0) → Type 0
 OnPath None run = run None
-OnPath (Some folders) run = (mounts : List Mount) × (mounted folders ≡ Ok mounts) × run (Some mounts)
+OnPath (Some folders) run = (mounts : List Mount) × (mounted folders ≡ Ok mounts) × run (Some (path_on folders mounts))
 
--- What a run on a path of these mounts took of the script and put, for each status that it may have.
-abbrev pub RunEnds : {F : Type 0} → Option (List Mount) → Request → (rest_before rest_now start now : Option (List ℕ)) → Status F → Type 0
-RunEnds mounts request rest_before rest_now start now Done = IsWhole mounts (first_state request) rest_before rest_now start now
-RunEnds mounts request rest_before rest_now start now OutOfMemory = IsCutAt fault.Memory mounts (first_state request) rest_before rest_now start now
-RunEnds mounts request rest_before rest_now start now ScriptFault = IsFailed mounts (first_state request) rest_before rest_now start now
-RunEnds mounts request rest_before rest_now start now (FolderFault word folder) = IsCutAt (fault.Folder (word - request.first)) mounts (first_state request) rest_before rest_now start now
-RunEnds mounts request rest_before rest_now start now WriteFault = IsCutAt fault.Write mounts (first_state request) rest_before rest_now start now
-RunEnds mounts request rest_before rest_now start now ScriptTooLong = IsPastLimit mounts (first_state request) rest_before rest_now start now
-RunEnds mounts request rest_before rest_now start now status = ⊥
+-- What a run from this state on took of the script and put, for each status that it may have; the word of the first folder has the
+-- number `word_of_first`. Where not all mounts are told, nothing is said of what was put.
+abbrev pub RunEnds : {F : Type 0} → Option State → (word_of_first : ℕ) → (rest_before rest_now start now : Option (List ℕ)) → Status F → Type 0
+RunEnds first word_of_first rest_before rest_now start now Done = IsWhole first rest_before rest_now start now
+RunEnds first word_of_first rest_before rest_now start now OutOfMemory = IsCutAt fault.Memory first rest_before rest_now start now
+RunEnds first word_of_first rest_before rest_now start now ScriptFault = IsFailed first rest_before rest_now start now
+RunEnds first word_of_first rest_before rest_now start now (FolderFault word folder) = IsCutAt (fault.Folder (word - word_of_first)) first rest_before rest_now start now
+RunEnds first word_of_first rest_before rest_now start now WriteFault = IsCutAt fault.Write first rest_before rest_now start now
+RunEnds first word_of_first rest_before rest_now start now ScriptTooLong = IsPastLimit first rest_before rest_now start now
+RunEnds first word_of_first rest_before rest_now start now status = ⊥
 
 -- What may end the opening, where the first folder's word has this number. A bad pack is the first of the folders; and those
 -- before a folder that failed have none.
@@ -150,7 +159,7 @@ OpeningEnds first told status = ⊥
 abbrev pub Ends : {F : Type 0} → Option (List (List File)) → Request → (rest_before rest_now start now : Option (List ℕ)) → Status F → Type 0
 Ends told request rest_before rest_now start now status =
     (OpeningEnds request.first told status × IsUntouched rest_before rest_now start now)
-    ⊎ OnPath told (λ mounts. RunEnds mounts request rest_before rest_now start now status)
+    ⊎ OnPath told (λ path. RunEnds (option_map (first_state request) path) request.first rest_before rest_now start now status)
 
 -- What was taken and put by words, which may be faulty. The folders that are asked for are those of the last words.
 abbrev pub EndsFor : {F : Type 0} → Result Request ℕ → List (Option (List File)) → (rest_before rest_now start now : Option (List ℕ)) → Status F → Type 0

@@ -1,11 +1,13 @@
 -- What the reading of a script took, and what was run of it.
-use Rattle.std.specs.Prelude.{◌≡◌, ◌≤◌, ◌+◌, ℕ, List, [], ◌∷◌, take, length, Bool, true, false, Option, IfSome}
+use Rattle.std.specs.Prelude.{◌≡◌, ◌≤◌, ◌+◌, ℕ, List, [], ◌∷◌, take, length, Bool, true, false, Option, Result, Ok, Err, IfSome}
 use Rattle.outside_io.specs.Causes.{Rose}
-use Rattle.search_paths.specs.Mounts.{Mount}
+use Rattle.outside_io.specs.declared.outside.Sink.{Ghosts as SinkGhosts}
 use Rattle.search_paths.specs.Counts.{NoneFalls}
 use Rattle.outside_io.specs.Streams.{Took}
-use Rattle.console_session.specs.States.{State, CauseOf}
-use Rattle.console_session.specs.Frames.{IsRun, IsCutShort}
+use Rattle.console_session.specs.States.{State, CauseOf, HasCauses}
+use Rattle.console_session.specs.Frames.{Ran, Runs}
+use Rattle.console_session.specs.Sessions.{Seen}
+use Rattle.console_session.specs.declared.ends.Fault.{Fault}
 use Rattle.console_core.specs.Runs.{run_lines, lines_of}
 use Rattle.console_core.specs.declared.script.ReadEnd.{ReadEnd}
 use Rattle.console_core.specs.declared.script.ReadEnd.TheVariants.{AtEnd, Quit, Ended, Failed, TooLong}
@@ -14,13 +16,19 @@ use Rattle.console_core.specs.declared.script.ReadEnd.TheVariants.{AtEnd, Quit, 
 abbrev pub limit : ℕ
 limit = 1048576
 
+-- What a call runs in a session: what is told of the run, that the path stands, and that each fault has its cause.
+pub record RunsIn {O : Type 0} (frugal : Bool) (sink : SinkGhosts O) (run : Ran) (old new : Seen) (before now : O) (result : Result Bool Fault) : Type 0 where
+  pub told : Runs run result new.state (sink.got before) (sink.got now)
+  pub path : new.state.path ≡ old.state.path
+  pub causes : HasCauses frugal old.faults new.faults (sink.sink_faults before) (sink.sink_faults now) result
+
 -- the whole lines of what was taken were run; of a script that is too long, those of as many bytes as it may have
-abbrev pub RunsTaken : List Mount → (first : State) → (taken : List ℕ) → ReadEnd → (after : State) → (start now : Option (List ℕ)) → Type 0
-RunsTaken mounts first taken AtEnd after start now = IsRun (run_lines mounts first (lines_of taken).whole) false after start now
-RunsTaken mounts first taken Quit after start now = IsRun (run_lines mounts first (lines_of taken).whole) true after start now
-RunsTaken mounts first taken (Ended fault) after start now = IsCutShort (run_lines mounts first (lines_of taken).whole).replies fault start now
-RunsTaken mounts first taken Failed after start now = IsRun (run_lines mounts first (lines_of taken).whole) false after start now
-RunsTaken mounts first taken TooLong after start now = IsRun (run_lines mounts first (lines_of (take limit taken)).whole) false after start now
+abbrev pub RunsTaken : (first : State) → (taken : List ℕ) → ReadEnd → (after : State) → (start now : Option (List ℕ)) → Type 0
+RunsTaken first taken AtEnd after start now = Runs (run_lines first (lines_of taken).whole) (Ok false) after start now
+RunsTaken first taken Quit after start now = Runs (run_lines first (lines_of taken).whole) (Ok true) after start now
+RunsTaken first taken (Ended fault) after start now = Runs (run_lines first (lines_of taken).whole) (Err fault) after start now
+RunsTaken first taken Failed after start now = Runs (run_lines first (lines_of taken).whole) (Ok false) after start now
+RunsTaken first taken TooLong after start now = Runs (run_lines first (lines_of (take limit taken)).whole) (Ok false) after start now
 
 -- Within the limit all that was taken may be run; a byte past it was taken of a script that is too long. At the end nothing is left.
 abbrev pub EndsAt : ReadEnd → (taken : List ℕ) → (rest : Option (List ℕ)) → Type 0
@@ -56,9 +64,9 @@ pub record HasReadCauses (frugal : Bool) (faults_before faults_now : List ℕ) (
   pub cause : ReadCause frugal faults_before faults_now sink_before sink_now script_before script_now end
 
 -- Bytes were taken, and what may be run of them was run.
-pub record HasRead (told : Option (List Mount)) (first after : State) (end : ReadEnd) (pending : List ℕ) (rest_before rest_now start now : Option (List ℕ)) : Type 0 where
+pub record HasRead (first after : State) (end : ReadEnd) (pending : List ℕ) (rest_before rest_now start now : Option (List ℕ)) : Type 0 where
   pub taken : List ℕ
   pub took : Took taken rest_before rest_now
   pub ends : EndsAt end taken rest_now
   pub keeps : Keeps end taken pending
-  pub run : IfSome told (λ mounts. RunsTaken mounts first taken end after start now)
+  pub run : RunsTaken first taken end after start now

@@ -1,26 +1,35 @@
 -- Runs of many lines, and of a whole script.
-use Rattle.std.specs.Prelude.{◌≡◌, ℕ, List, [], ◌∷◌, ◌++◌, length, take, Bool, true, false, ◌==◌, if◌then◌else◌}
+use Rattle.std.specs.Prelude.{◌≡◌, ℕ, List, [], ◌∷◌, ◌++◌, length, take, Bool, true, false, ◌==◌, if◌then◌else◌, Option, Some, None}
 use Rattle.std.specs.List.{AllByRecursion}
-use Rattle.search_paths.specs.Mounts.{Mount}
-use Rattle.console_session.specs.States.{State}
-use Rattle.console_session.specs.Frames.{Ran, stopped, line, finish}
+use Rattle.console_session.specs.States.{State, Reply}
+use Rattle.console_session.specs.Frames.{Ended, Ran, stopped, line, finish}
 
--- two runs, one after another
-abbrev pub joined_runs : Ran → Ran → Ran
-joined_runs first second = record { after = second.after; replies = first.replies ++ second.replies; quit = second.quit }
+-- replies, and then those of a run
+abbrev pub joined_runs : List Reply → Ran → Ran
+joined_runs replies ran = record { replies = replies ++ ran.replies; end = ran.end }
 
-abbrev pub go_on : Bool → Ran → Ran → Ran
-go_on true ran next = ran
-go_on false ran next = joined_runs ran next
+abbrev pub go_on : Bool → List Reply → State → (State → Ran) → Ran
+go_on true replies after rest = stopped after replies true
+go_on false replies after rest = joined_runs replies (rest after)
 
--- a run, and then what follows where it didn't quit
+-- replies that end so, and then what follows: nothing where no end is told
+abbrev pub behind : List Reply → Option Ended → (State → Ran) → Ran
+behind replies None rest = record { replies = replies; end = None }
+behind replies (Some end) rest = go_on end.quit replies end.after rest
+
+-- a run, and then what follows where its end is told and it didn't quit
 abbrev pub followed : Ran → (State → Ran) → Ran
-followed ran rest = go_on ran.quit ran (rest ran.after)
+followed ran rest = behind ran.replies ran.end rest
+
+-- whether a run ends by `quit`, where its end is told
+abbrev pub quit_at : Option Ended → Option Bool
+quit_at None = None
+quit_at (Some end) = Some end.quit
 
 -- lines of input, one after another, up to `quit`
-abbrev pub run_lines : List Mount → State → List (List ℕ) → Ran
-run_lines mounts s [] = stopped s [] false
-run_lines mounts s (text ∷ lines) = followed (line mounts s text) (λ after. run_lines mounts after lines)
+abbrev pub run_lines : State → List (List ℕ) → Ran
+run_lines s [] = stopped s [] false
+run_lines s (text ∷ lines) = followed (line text s) (λ after. run_lines after lines)
 
 -- the whole lines of a text, which end in a newline, and the rest
 pub record Lines : Type 0 where
@@ -41,20 +50,20 @@ lines_of [] = record { whole = []; rest = [] }
 lines_of (byte ∷ bytes) = one_byte (byte == 10) byte (lines_of bytes)
 
 -- a last line without a newline counts where it isn't empty
-abbrev pub last_line : List Mount → State → List ℕ → Ran
-last_line mounts s text = if length text == 0 then stopped s [] false else line mounts s text
+abbrev pub last_line : State → List ℕ → Ran
+last_line s text = if length text == 0 then stopped s [] false else line text s
 
 -- the line at the script's end, and the frames after it
-abbrev pub rest_run : List Mount → State → List ℕ → Ran
-rest_run mounts s text = followed (last_line mounts s text) (λ after. finish mounts after)
+abbrev pub rest_run : State → List ℕ → Ran
+rest_run s text = followed (last_line s text) (λ after. finish after)
 
 -- the whole script
-abbrev pub run : List Mount → State → List ℕ → Ran
-run mounts s script = followed (run_lines mounts s (lines_of script).whole) (λ after. rest_run mounts after (lines_of script).rest)
+abbrev pub run : State → List ℕ → Ran
+run s script = followed (run_lines s (lines_of script).whole) (λ after. rest_run after (lines_of script).rest)
 
 -- what a byte runs, behind what is kept of its line
-abbrev pub byte_run : List Mount → State → List ℕ → ℕ → Ran
-byte_run mounts s pending byte = if byte == 10 then line mounts s pending else stopped s [] false
+abbrev pub byte_run : State → List ℕ → ℕ → Ran
+byte_run s pending byte = if byte == 10 then line pending s else stopped s [] false
 
 -- what is kept of an unfinished line: its first 8192 bytes, which are more than the buffer holds
 abbrev pub still_pending : List ℕ → ℕ → List ℕ

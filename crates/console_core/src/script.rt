@@ -1,11 +1,10 @@
 // The script: it is read in pieces, and the whole lines of what was taken are run before the next read.
-ghost use Rattle.std.specs.Prelude.{◌≡◌, ◌≤◌, ◌++◌, ◌∷◌, IfSome, Ok, [], length, take, false};
+ghost use Rattle.std.specs.Prelude.{◌≡◌, ◌≤◌, ◌++◌, ◌∷◌, Ok, [], length, take, false};
 ghost use Rattle.outside_io.specs.Causes.{Rose};
-ghost use Rattle.console_session.specs.States.{HasCauses};
 ghost use Rattle.console_session.specs.Sessions.{told_end};
-ghost use Rattle.console_session.specs.Frames.{line, Runs};
+ghost use Rattle.console_session.specs.Frames.{line};
 ghost use Rattle.console_core.specs.Runs.{run_lines, lines_of, byte_run, still_pending, last_line, rest_run, HasNoNewline};
-ghost use Rattle.console_core.specs.Reading.{HasRead, ReadsPast, HasReadCauses};
+ghost use Rattle.console_core.specs.Reading.{RunsIn, HasRead, ReadsPast, HasReadCauses};
 
 use arrayvec::ArrayVec;
 use console_session::{Fault, Session, StepEnd};
@@ -56,10 +55,9 @@ fn run_line<M: Store, F: Folder, O: Sink>(
     out: &mut O,
 ) -> Result<bool, Fault>
     requires going { session.old.ended ≡ false }
-    ensures told { IfSome session.old.path.mounts (λ mounts. Runs (line mounts session.old.state text.now) result session.new.state (O.got out.old) (O.got out.new)) }
+    ensures runs { RunsIn M.frugal O.Sink (line text.now session.old.state)
+        session.old session.new out.old out.new result }
     ensures going { result ≡ Ok false → session.new.ended ≡ false }
-    ensures path { session.new.path ≡ session.old.path }
-    ensures causes { HasCauses M.frugal session.old.faults session.new.faults (O.sink_faults out.old) (O.sink_faults out.new) result }
 {
     told(session.step(text, out))
 }
@@ -72,11 +70,10 @@ fn feed_byte<M: Store, F: Folder, O: Sink>(
     out: &mut O,
 ) -> Result<bool, Fault>
     requires going { session.old.ended ≡ false }
-    ensures told { IfSome session.old.path.mounts (λ mounts. Runs (byte_run mounts session.old.state pending.old.items byte) result session.new.state (O.got out.old) (O.got out.new)) }
+    ensures runs { RunsIn M.frugal O.Sink (byte_run session.old.state pending.old.items byte)
+        session.old session.new out.old out.new result }
     ensures rest { result ≡ Ok false → pending.new.items ≡ still_pending pending.old.items byte }
     ensures going { result ≡ Ok false → session.new.ended ≡ false }
-    ensures path { session.new.path ≡ session.old.path }
-    ensures causes { HasCauses M.frugal session.old.faults session.new.faults (O.sink_faults out.old) (O.sink_faults out.new) result }
 {
     if byte == b'\n' {
         let result = run_line(session, pending.as_slice(), out);
@@ -96,7 +93,7 @@ fn keep(pending: &mut Pending, byte: u8)
     }
 }
 
-// Runs the whole lines of what is pending and a piece, and keeps the rest. True where `quit` was executed.
+// Runs the whole lines of what is pending and a piece, and keeps the rest; then what was put is handed on. True where `quit` was executed.
 fn feed<M: Store, F: Folder, O: Sink>(
     session: &mut Session<M, F>,
     pending: &mut Pending,
@@ -106,11 +103,30 @@ fn feed<M: Store, F: Folder, O: Sink>(
     requires pending { HasNoNewline pending.old.items }
     requires short { length pending.old.items ≤ 8192 }
     requires going { session.old.ended ≡ false }
-    ensures told { IfSome session.old.path.mounts (λ mounts. Runs (run_lines mounts session.old.state (lines_of (pending.old.items ++ piece.now)).whole) result session.new.state (O.got out.old) (O.got out.new)) }
+    ensures runs { RunsIn M.frugal O.Sink (run_lines session.old.state (lines_of (pending.old.items ++ piece.now)).whole)
+        session.old session.new out.old out.new result }
     ensures rest { result ≡ Ok false → pending.new.items ≡ take 8192 (lines_of (pending.old.items ++ piece.now)).rest }
     ensures going { result ≡ Ok false → session.new.ended ≡ false }
-    ensures path { session.new.path ≡ session.old.path }
-    ensures causes { HasCauses M.frugal session.old.faults session.new.faults (O.sink_faults out.old) (O.sink_faults out.new) result }
+{
+    let result = feed_bytes(session, pending, piece, out);
+    out.flush();
+    result
+}
+
+// The same, with what was put of the replies still held back.
+fn feed_bytes<M: Store, F: Folder, O: Sink>(
+    session: &mut Session<M, F>,
+    pending: &mut Pending,
+    piece: &[u8],
+    out: &mut O,
+) -> Result<bool, Fault>
+    requires pending { HasNoNewline pending.old.items }
+    requires short { length pending.old.items ≤ 8192 }
+    requires going { session.old.ended ≡ false }
+    ensures runs { RunsIn M.frugal O.Sink (run_lines session.old.state (lines_of (pending.old.items ++ piece.now)).whole)
+        session.old session.new out.old out.new result }
+    ensures rest { result ≡ Ok false → pending.new.items ≡ take 8192 (lines_of (pending.old.items ++ piece.now)).rest }
+    ensures going { result ≡ Ok false → session.new.ended ≡ false }
 {
     for byte in piece {
         match feed_byte(session, pending, *byte, out) {
@@ -145,10 +161,13 @@ pub fn run_script<M: Store, F: Folder, S: Source, O: Sink>(
 ) -> ReadEnd
     requires empty { pending.old.items ≡ [] }
     requires going { session.old.ended ≡ false }
-    ensures read { HasRead session.old.path.mounts session.old.state session.new.state result pending.new.items (S.rest script.old) (S.rest script.new) (O.got out.old) (O.got out.new) }
+    ensures read { HasRead session.old.state session.new.state result pending.new.items
+        (S.rest script.old) (S.rest script.new) (O.got out.old) (O.got out.new) }
     ensures going { result ≡ ReadEnd.AtEnd → session.new.ended ≡ false }
-    ensures path { session.new.path ≡ session.old.path }
-    ensures causes { HasReadCauses M.frugal session.old.faults session.new.faults (O.sink_faults out.old) (O.sink_faults out.new) (S.source_faults script.old) (S.source_faults script.new) result }
+    ensures path { session.new.state.path ≡ session.old.state.path }
+    ensures causes { HasReadCauses M.frugal session.old.faults session.new.faults
+        (O.sink_faults out.old) (O.sink_faults out.new)
+        (S.source_faults script.old) (S.source_faults script.new) result }
 {
     let mut piece = [0u8; PIECE];
     let mut left = LIMIT;
@@ -177,10 +196,9 @@ fn run_last<M: Store, F: Folder, O: Sink>(
     out: &mut O,
 ) -> Result<bool, Fault>
     requires going { session.old.ended ≡ false }
-    ensures told { IfSome session.old.path.mounts (λ mounts. Runs (last_line mounts session.old.state text.now) result session.new.state (O.got out.old) (O.got out.new)) }
+    ensures runs { RunsIn M.frugal O.Sink (last_line session.old.state text.now)
+        session.old session.new out.old out.new result }
     ensures going { result ≡ Ok false → session.new.ended ≡ false }
-    ensures path { session.new.path ≡ session.old.path }
-    ensures causes { HasCauses M.frugal session.old.faults session.new.faults (O.sink_faults out.old) (O.sink_faults out.new) result }
 {
     if text.is_empty() {
         return Ok(false);
@@ -195,9 +213,8 @@ pub fn run_rest<M: Store, F: Folder, O: Sink>(
     out: &mut O,
 ) -> Result<bool, Fault>
     requires going { session.old.ended ≡ false }
-    ensures told { IfSome session.old.path.mounts (λ mounts. Runs (rest_run mounts session.old.state text.now) result session.new.state (O.got out.old) (O.got out.new)) }
-    ensures path { session.new.path ≡ session.old.path }
-    ensures causes { HasCauses M.frugal session.old.faults session.new.faults (O.sink_faults out.old) (O.sink_faults out.new) result }
+    ensures { RunsIn M.frugal O.Sink (rest_run session.old.state text.now)
+        session.old session.new out.old out.new result }
 {
     match run_last(session, text, out) {
         Ok(false) => told(session.finish(out)),

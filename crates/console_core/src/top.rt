@@ -1,8 +1,10 @@
 // The top call.
-ghost use Rattle.std.specs.Prelude.{◌≡◌, ◌↔◌, ◌<◌, ◌≤◌, ◌+◌, ◌-◌, ◌^◌, map, drop, string_bytes, vec_len, length, IfSome, IsSomeAnd, Some, None, false};
+ghost use Rattle.std.specs.Prelude.{◌≡◌, ◌↔◌, ◌<◌, ◌≤◌, ◌+◌, ◌-◌, ◌^◌, map, drop, string_bytes, vec_len, length};
+ghost use Rattle.std.specs.Prelude.{IfSome, IsSomeAnd, Some, None, false};
 ghost use Rattle.outside_io.specs.Causes.{Rose};
 ghost use Rattle.search_paths.specs.Path.{all_some};
-ghost use Rattle.console_core.specs.Ends.{AsksTooMuch, usage_of, first_state, Ends, RunEnds, HasOwnCause, HandsOver, HasOutcome, IsFaultOf, IsAmong, IsComplete};
+ghost use Rattle.console_core.specs.Ends.{AsksTooMuch, usage_of, told_state, Ends, RunEnds, IsFaultOf, IsAmong};
+ghost use Rattle.console_core.specs.Ends.{HasOwnCause, HandsOver, HasOutcome, IsComplete};
 ghost use Rattle.command_line.specs.CommandLine.{IsAsked};
 
 use crate::opening::mount_all;
@@ -20,11 +22,12 @@ const USERS: u32 = 768;
 // How many folders a command line names at most.
 const MOST_FOLDERS: usize = 8;
 
-// The status of a run that a fault ended, where the first folder's word has this number. A folder's fault hands the folder back.
+// The status of a run that a fault ended, where the first folder's word has this number. A folder's fault hands the folder
+// back.
 fn faulted<M: Store, F: Folder>(session: Session<M, F>, first: u32, fault: Fault) -> Status<F>
     requires among { IsAmong (length session.faults) fault }
     requires small { first + length session.faults < 2 ^ 32 }
-    ensures { IsFaultOf fault first F.files F.folder_faults session.path.told session.faults result }
+    ensures { IsFaultOf fault first F.files F.folder_faults session.state.path.told session.faults result }
 {
     match fault {
         Fault::Folder { folder } => Status::FolderFault {
@@ -44,14 +47,15 @@ fn run_session<M: Store, F: Folder, S: Source, O: Sink>(
     out: &mut O,
 ) -> Status<F>
     requires going { session.ended ≡ false }
-    requires first { session.state ≡ first_state request }
-    requires folders { length session.faults ≡ length session.path.told }
+    requires folders { length session.faults ≡ length session.state.path.told }
     requires small { request.first + length session.faults < 2 ^ 32 }
     ensures usage { usage_of result ≡ None }
     ensures not_small { result ≡ Status.TooSmall → ⊥ }
-    ensures ends { RunEnds session.path.mounts request (S.rest script.old) (S.rest script.new) (O.got out.old) (O.got out.new) result }
-    ensures cause { HasOwnCause (S.source_faults script.old) (S.source_faults script.new) (O.sink_faults out.old) (O.sink_faults out.new) result }
-    ensures handed_over { HandsOver request.first F.files F.folder_faults session.path.told session.faults result }
+    ensures ends { RunEnds (told_state session.state) request.first
+        (S.rest script.old) (S.rest script.new) (O.got out.old) (O.got out.new) result }
+    ensures cause { HasOwnCause (S.source_faults script.old) (S.source_faults script.new)
+        (O.sink_faults out.old) (O.sink_faults out.new) result }
+    ensures handed_over { HandsOver request.first F.files F.folder_faults session.state.path.told session.faults result }
     ensures script_counts { S.source_faults script.old ≤ S.source_faults script.new }
     ensures sink_counts { O.sink_faults out.old ≤ O.sink_faults out.new }
 {
@@ -84,9 +88,12 @@ fn run_folders<F: Folder, S: Source, O: Sink>(
     requires few { vec_len folders ≤ 65536 }
     ensures usage { usage_of result ≡ None }
     ensures too_small { (result ≡ Status.TooSmall) ↔ AsksTooMuch request }
-    ensures ends { Ends (all_some (map F.files folders.items)) request (S.rest script.old) (S.rest script.new) (O.got out.old) (O.got out.new) result }
-    ensures cause { HasOwnCause (S.source_faults script.old) (S.source_faults script.new) (O.sink_faults out.old) (O.sink_faults out.new) result }
-    ensures handed_over { HandsOver request.first F.files F.folder_faults (map F.files folders.items) (map F.folder_faults folders.items) result }
+    ensures ends { Ends (all_some (map F.files folders.items)) request
+        (S.rest script.old) (S.rest script.new) (O.got out.old) (O.got out.new) result }
+    ensures cause { HasOwnCause (S.source_faults script.old) (S.source_faults script.new)
+        (O.sink_faults out.old) (O.sink_faults out.new) result }
+    ensures handed_over { HandsOver request.first F.files F.folder_faults
+        (map F.files folders.items) (map F.folder_faults folders.items) result }
     ensures script_counts { S.source_faults script.old ≤ S.source_faults script.new }
     ensures sink_counts { O.sink_faults out.old ≤ O.sink_faults out.new }
 {
@@ -125,7 +132,9 @@ fn run<F: Folder, S: Source, O: Sink>(
 ) -> Status<F>
     requires one_each { vec_len folders ≡ length words.now }
     requires few { length words.now < 2 ^ 32 }
-    ensures outcome { HasOutcome (map string_bytes words.now) F.files F.folder_faults folders.items (S.rest script.old) (S.rest script.new) (O.got out.old) (O.got out.new) (S.source_faults script.old) (S.source_faults script.new) (O.sink_faults out.old) (O.sink_faults out.new) result }
+    ensures outcome { HasOutcome (map string_bytes words.now) F.files F.folder_faults folders.items
+        (S.rest script.old) (S.rest script.new) (O.got out.old) (O.got out.new)
+        (S.source_faults script.old) (S.source_faults script.new) (O.sink_faults out.old) (O.sink_faults out.new) result }
     ensures script_counts { S.source_faults script.old ≤ S.source_faults script.new }
     ensures sink_counts { O.sink_faults out.old ≤ O.sink_faults out.new }
 {
@@ -166,12 +175,18 @@ pub fn quake_main<S: Source, O: Sink>(
 ) -> Status
     requires one_each { vec_len folders ≡ length words.now }
     requires few { length words.now < 2 ^ 32 }
-    ensures outcome { HasOutcome (map string_bytes words.now) files folder_faults folders.items (S.rest script.old) (S.rest script.new) (O.got out.old) (O.got out.new) (S.source_faults script.old) (S.source_faults script.new) (O.sink_faults out.old) (O.sink_faults out.new) result }
+    ensures outcome { HasOutcome (map string_bytes words.now) files folder_faults folders.items
+        (S.rest script.old) (S.rest script.new) (O.got out.old) (O.got out.new)
+        (S.source_faults script.old) (S.source_faults script.new) (O.sink_faults out.old) (O.sink_faults out.new) result }
     ensures script_counts { S.source_faults script.old ≤ S.source_faults script.new }
     ensures sink_counts { O.sink_faults out.old ≤ O.sink_faults out.new }
-    ensures too_long { IfSome (S.rest script.old) (λ before. IfSome (S.rest script.new) (λ after. (result ≡ Status.ScriptTooLong) ↔ (1048576 < length before - length after))) }
-    ensures complete { (request : Request) → IsAsked (map string_bytes words.now) 8 request → (AsksTooMuch request → ⊥) → IsSomeAnd (S.rest script.old) (λ bytes. length bytes ≤ 1048576)
-        → (Rose (S.source_faults script.old) (S.source_faults script.new) → ⊥) → (Rose (O.sink_faults out.old) (O.sink_faults out.new) → ⊥) → IsComplete (all_some (drop request.first (map files folders.items))) result }
+    ensures too_long { IfSome (S.rest script.old) (λ before. IfSome (S.rest script.new) (λ after.
+        (result ≡ Status.ScriptTooLong) ↔ (1048576 < length before - length after))) }
+    ensures complete { (request : Request) → IsAsked (map string_bytes words.now) 8 request → (AsksTooMuch request → ⊥)
+        → IsSomeAnd (S.rest script.old) (λ bytes. length bytes ≤ 1048576)
+        → (Rose (S.source_faults script.old) (S.source_faults script.new) → ⊥)
+        → (Rose (O.sink_faults out.old) (O.sink_faults out.new) → ⊥)
+        → IsComplete (all_some (drop request.first (map files folders.items))) result }
 {
     run(alloc, words, folders, script, out)
 }

@@ -1,12 +1,8 @@
 -- The counts of folders and of the sink over steps, and the causes of faults.
-use Rattle.std.proofs.Common.{◌≡◌, ◌≤◌, ℕ, List, length, Bool, Option, Result, Ok, Err, refl, ◌∙◌, ap, arith}
-use Rattle.outside_io.specs.Files.{File}
+use Rattle.std.proofs.Common.{◌≡◌, ◌≤◌, ℕ, List, length, Bool, Option, IfErr, Result, Ok, Err, refl, sym, ◌∙◌, subst, arith}
 use Rattle.search_paths.specs.Counts.{NoneFalls}
-use Rattle.search_paths.specs.Path.{PathState, told_of, rows_of, mounts_of, all_some, SamePath}
-use Rattle.search_paths.specs.Mounts.{Mount}
-use Rattle.search_paths.specs.declared.answers.MountRow.{MountRow}
 use Rattle.console_session.specs.States.{CauseOf, HasCauses}
-use Rattle.console_session.specs.Sessions.{PathSeen, path_of}
+use Rattle.console_session.specs.Telling.{Tells, SinkCause}
 use Rattle.console_session.specs.declared.ends.Fault.{Fault}
 use Rattle.console_session.specs.declared.ends.Fault.TheVariants as fault
 
@@ -58,11 +54,21 @@ causes_of a b s t frugal error causes = record { none_falls = causes.none_falls;
 pub causes_ok : {A : Type 0} (a b : List ℕ) (s t : ℕ) (frugal : Bool) (value : A) → Counted a b s t → HasCauses frugal a b s t (Ok value)
 causes_ok a b s t frugal value counted = record { none_falls = counted.none_falls; folders = counted.folders; sink_counts = counted.sink_counts; cause = tt }
 
--- a path that calls left as it was
-module _ {F : Type 0} (files : F → Option (List File)) (before now : PathState F) (same : SamePath files before now) where
-  pub same_path : path_of files now ≡ path_of files before
-  same_path =
-      let from_rows : List MountRow → PathSeen = λ (rs : List MountRow). record { mounts = mounts_of files now; rows = rs; told = told_of files now } in
-      let from_mounts : List (Option Mount) → PathSeen = λ (ms : List (Option Mount)). record { mounts = all_some ms; rows = rows_of before; told = told_of files now } in
-      let from_told : List (Option (List File)) → PathSeen = λ (ts : List (Option (List File))). record { mounts = mounts_of files before; rows = rows_of before; told = ts } in
-      ap from_rows same.rows ∙ ap from_mounts same.mounts ∙ ap from_told same.told
+-- what was counted, and a put then
+pub causes_put : {A : Type 0} (text : List ℕ) (answer : A) (a b : List ℕ) (s t u : ℕ) (frugal : Bool) (result : Result A Fault) (start now : Option (List ℕ)) → Counted a b s t → t ≤ u → Tells (Ok text) answer result start now
+    → IfErr result (λ e. SinkCause t u e) → HasCauses frugal a b s u result
+causes_put text answer a b s t u frugal (Ok value) start now counted more tells cause = record {
+  none_falls = counted.none_falls;
+  folders = counted.folders;
+  sink_counts = omega (arith, counted.sink_counts, more);
+  cause = tt;
+}
+causes_put text answer a b s t u frugal (Err error) start now counted more tells cause = record {
+  none_falls = counted.none_falls;
+  folders = counted.folders;
+  sink_counts = omega (arith, counted.sink_counts, more);
+  cause =
+      let rose : SinkCause t u fault.Write = subst (λ e. SinkCause t u e) tells.0 cause in
+      let here : CauseOf frugal a b s u fault.Write = omega (arith, counted.sink_counts, rose) in
+      subst (λ e. CauseOf frugal a b s u e) (sym tells.0) here;
+}

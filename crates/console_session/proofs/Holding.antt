@@ -17,8 +17,8 @@ use Rattle.cvar_table.specs.Cvars.{Cvar, HoldsCvars, created, defaults, places_o
 use Rattle.cvar_table.proofs.CreatedLaws.{created_new}
 use Rattle.cmd_buffer.specs.Aliases.{Alias, HoldsAliases, aliases_of, alias_places}
 use Rattle.cmd_buffer.proofs.AliasLaws.{aliases_still, holds_none, aliases_none}
-use Rattle.console_session.specs.States.{State, IsNew}
-use Rattle.console_session.specs.Holding.{Holds}
+use Rattle.console_session.specs.States.{State, PathSeen, IsNew}
+use Rattle.console_session.specs.Holding.{Holds, IsLowMark}
 
 -- Over a step that leaves what is kept elsewhere, what is held there is held still, and apart from what is kept now.
 module _ (m n : Memory) (before now : List ℕ) (stay : OthersStay m n before now) where
@@ -42,11 +42,12 @@ same_bytes m n [] same = tt
 same_bytes m n (place ∷ places) same = (λ bytes there. zone_bytes-same n m place same ∙ there, same_bytes m n places same)
 
 -- a step that leaves the zone
-pub holds_memory : (s : State) (m : Memory) → Holds s → Laid m → m.zone ≡ s.memory.zone → Holds (record s { memory = m })
-holds_memory s m h laid same =
+pub holds_memory : (s : State) (m : Memory) → Holds s → Laid m → IsLowMark m.low s.level → m.zone ≡ s.memory.zone → Holds (record s { memory = m })
+holds_memory s m h laid level same =
     let still = aliases_still s.memory m s.newest (same_bytes s.memory m (alias_places (aliases_of s.memory s.newest)) same) h.aliases in
     record {
       laid = laid;
+      level = level;
       text = h.text;
       cvars = AreHeld-same s.memory m (cvar_places s.cvars) same h.cvars;
       aliases = still.0;
@@ -54,19 +55,20 @@ holds_memory s m h laid same =
     }
 
 pub holds_buffer : (s : State) (buffer : List ℕ) → Holds s → IsText buffer → Holds (record s { buffer = buffer })
-holds_buffer s buffer h text = record { laid = h.laid; text = text; cvars = h.cvars; aliases = h.aliases; apart = h.apart }
+holds_buffer s buffer h text = record { laid = h.laid; level = h.level; text = text; cvars = h.cvars; aliases = h.aliases; apart = h.apart }
 
-pub holds_level : (s : State) (level : ℕ) → Holds s → Holds (record s { level = level })
-holds_level s level h = record { laid = h.laid; text = h.text; cvars = h.cvars; aliases = h.aliases; apart = h.apart }
+pub holds_level : (s : State) (level : ℕ) → Holds s → IsLowMark s.memory.low level → Holds (record s { level = level })
+holds_level s level h is = record { laid = h.laid; level = is; text = h.text; cvars = h.cvars; aliases = h.aliases; apart = h.apart }
 
 -- the cvars changed in their blocks
-pub holds_cvars : (s : State) (m : Memory) (cvars : List Cvar) → Holds s → Laid m → HoldsCvars m cvars → OthersStay s.memory m (cvar_places s.cvars) (cvar_places cvars) →
+pub holds_cvars : (s : State) (m : Memory) (cvars : List Cvar) → Holds s → Laid m → m.low ≡ s.memory.low → HoldsCvars m cvars → OthersStay s.memory m (cvar_places s.cvars) (cvar_places cvars) →
     Holds (record s { memory = m; cvars = cvars })
-holds_cvars s m cvars h laid holds stay =
+holds_cvars s m cvars h laid low holds stay =
     let places = alias_places (aliases_of s.memory s.newest) in
     let still = aliases_still s.memory m s.newest (still_bytes s.memory m _ _ stay places h.apart) h.aliases in
     record {
       laid = laid;
+      level = subst (λ l. IsLowMark l s.level) (sym low) h.level;
       text = h.text;
       cvars = holds;
       aliases = still.0;
@@ -74,13 +76,14 @@ holds_cvars s m cvars h laid holds stay =
     }
 
 -- the aliases changed in their blocks
-pub holds_aliases : (s : State) (m : Memory) (newest : Option ℕ) → Holds s → Laid m → HoldsAliases m newest →
+pub holds_aliases : (s : State) (m : Memory) (newest : Option ℕ) → Holds s → Laid m → m.low ≡ s.memory.low → HoldsAliases m newest →
     OthersStay s.memory m (alias_places (aliases_of s.memory s.newest)) (alias_places (aliases_of m newest)) → Holds (record s { memory = m; newest = newest })
-holds_aliases s m newest h laid holds stay =
+holds_aliases s m newest h laid low holds stay =
     let places = cvar_places s.cvars in
     let apart = among_turned (alias_places (aliases_of s.memory s.newest)) places h.apart in
     record {
       laid = laid;
+      level = subst (λ l. IsLowMark l s.level) (sym low) h.level;
       text = h.text;
       cvars = record { used = still_used s.memory m _ _ stay places apart h.cvars.used; apart = h.cvars.apart };
       aliases = holds;
@@ -106,9 +109,10 @@ zone_after_video m marked freed n size name frugal mark answer reply marking fre
     ∙ ap (λ (x : Memory). x.zone) marking.after ∙ zone-high_mark m
 
 -- at the start
-pub holds_first : (m : Memory) (level : ℕ) (cvars : List Cvar) → Laid m → HoldsCvars m cvars → Holds (record { memory = m; buffer = []; level = level; cvars = cvars; newest = None })
-holds_first m level cvars laid holds = record {
+pub holds_first : (m : Memory) (path : PathSeen) (level : ℕ) (cvars : List Cvar) → Laid m → IsLowMark m.low level → HoldsCvars m cvars → Holds (record { memory = m; path = path; buffer = []; level = level; cvars = cvars; newest = None })
+holds_first m path level cvars laid mark holds = record {
   laid = laid;
+  level = mark;
   text = All-nil (λ byte. byte ≢ 0);
   cvars = holds;
   aliases = holds_none m;

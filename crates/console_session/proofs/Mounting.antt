@@ -1,17 +1,14 @@
 -- The lines of mounts, one after another.
-use Rattle.std.proofs.Common.{ℕ, ◌+◌, ◌≡◌, ◌≤◌, List, ◌∷◌, [], ◌++◌, length, drop, Option, inl, inr, Some, None, Result, Ok, Err, ap, sym, subst, ◌∙◌}
+use Rattle.std.proofs.Common.{ℕ, ◌+◌, ◌≡◌, ◌≤◌, List, ◌∷◌, ◌++◌, length, drop, Option, inl, inr, Some, None, ap, sym, subst, ◌∙◌}
 use Rattle.std.specs.Prelude.{slice_get}
 use Rattle.std.proofs.lemmas.List.{drop_more, drop_all}
 use Rattle.std.proofs.lemmas.Option.{slice_get_within, slice_get_cases, get_or_from_slice_get}
 use Rattle.outside_io.specs.Streams.{AddsFront}
-use Rattle.outside_io.proofs.Puts.{PutSoFar, front_put}
+use Rattle.outside_io.proofs.Puts.{PutSoFar}
 use Rattle.reply_pieces.specs.Pieces.{HoldsBack}
-use Rattle.reply_pieces.proofs.Holding.{next_held, held_front, held_all, so_far_held, put_held}
+use Rattle.reply_pieces.proofs.Holding.{next_held, held_front, held_all}
 use Rattle.search_paths.specs.declared.answers.MountRow.{MountRow}
-use Rattle.console_session.specs.States.{Replies}
 use Rattle.console_session.specs.Commands.{mount_line, mount_lines}
-use Rattle.console_session.specs.declared.ends.Next.{Next}
-use Rattle.console_session.specs.declared.ends.Fault.{Fault}
 
 -- past the last row nothing is left
 pub past : (rows : List MountRow) (number : ℕ) → None ≡ slice_get rows number → length rows ≤ number
@@ -35,8 +32,3 @@ module _ (whole : List ℕ) (rows : List MountRow) (number : ℕ) (held : List �
 
   pub last_mount : length rows ≤ number → HoldsBack whole held start mid
   last_mount end = held_all whole held start mid (subst (λ (r : List MountRow). PutSoFar whole start (held ++ mount_lines r) mid) (drop_all number rows end) so_far)
-
--- what is held back is put at the end
-pub replies_held : (text held : List ℕ) (next : Next) (result : Result Next Fault) (start mid now : Option (List ℕ)) → HoldsBack text held start mid → Replies held next result mid now → Replies text next result start now
-replies_held text held next (Ok answer) start mid now holds replies = (replies.0, put_held text held start mid now holds replies.1)
-replies_held text held next (Err error) start mid now holds replies = (replies.0, front_put text held [] start mid now (so_far_held text held start mid now holds) replies.1)

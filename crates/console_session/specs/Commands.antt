@@ -1,9 +1,8 @@
 -- The commands.
-use Rattle.std.specs.Prelude.{ℕ, ◌+◌, Bool, ◌==◌, nat_le, if◌then◌else◌, List, [], ◌∷◌, ◌++◌, length, map, drop, slice_index_or, Option, Some, None, Result, Ok, Err, codes, decimal}
+use Rattle.std.specs.Prelude.{ℕ, ◌+◌, Bool, ◌==◌, nat_le, if◌then◌else◌, List, [], ◌∷◌, ◌++◌, length, drop, slice_index_or, Option, Some, None, Result, Ok, Err, codes, decimal}
 use Rattle.base_fields.specs.Names.{lawful_name, base_of}
 use Rattle.base_fields.specs.Numbers.{number_of}
 use Rattle.base_fields.specs.Texts.{until_zero}
-use Rattle.search_paths.specs.Mounts.{Mount}
 use Rattle.search_paths.specs.declared.answers.MountRow.{MountRow}
 use Rattle.search_paths.specs.declared.answers.MountRow.TheVariants as row
 use Rattle.file_load.specs.Loads.{Load, Load.Missing, Load.Beyond, Load.NoRoom, Load.At, Loading, load_low}
@@ -18,7 +17,7 @@ use Rattle.cmd_buffer.specs.Aliases.{AliasText, AliasSet, AliasRefusal, AliasRef
 use Rattle.cvar_table.specs.Cvars.{CvarSet, cvar_value, set_cvar}
 use Rattle.reply_pieces.specs.Pieces.{joined}
 use Rattle.console_session.specs.Verbs.{verb_of}
-use Rattle.console_session.specs.States.{State, Did, says, takes, loads}
+use Rattle.console_session.specs.States.{State, Did, Untold, says, takes, loads}
 use Rattle.console_session.specs.declared.ends.Next.TheVariants.{Goes, Waits, Quits}
 use Rattle.console_session.specs.declared.verbs.Verb.{Verb}
 use Rattle.console_session.specs.declared.verbs.Verb.TheVariants as verb
@@ -32,8 +31,8 @@ abbrev pub spaced : List (List ℕ) → List ℕ
 spaced [] = 10 ∷ []
 spaced (word ∷ words) = (word ++ 32 ∷ []) ++ spaced words
 
-abbrev pub answer_echo : State → List (List ℕ) → Did
-answer_echo s words = says s Goes (spaced (drop 1 words))
+abbrev pub answer_echo : List (List ℕ) → State → Did
+answer_echo words s = says s Goes (spaced (drop 1 words))
 
 abbrev pub bad_name : State → Did
 bad_name s = says s Goes (joined (codes "bad name\n" ∷ []))
@@ -44,26 +43,39 @@ bad_number s = says s Goes (joined (codes "bad number\n" ∷ []))
 abbrev pub short_text : ℕ → List ℕ
 short_text asked = joined (codes "failed on " ∷ decimal asked ∷ codes " bytes\n" ∷ [])
 
+-- there is no file of the name
+abbrev pub missing_text : (missing name : List ℕ) → List ℕ
+missing_text missing name = joined (missing ∷ name ∷ codes "\n" ∷ [])
+
 -- a file ends here, past the end of its pack
 abbrev pub beyond_text : List ℕ → (end whole : ℕ) → List ℕ
 beyond_text name end whole = joined (codes "beyond pack: " ∷ name ∷ codes " ends at " ∷ decimal end ∷ codes " of " ∷ decimal whole ∷ codes "\n" ∷ [])
 
-abbrev pub file_text : List ℕ → Load → List ℕ
-file_text name Missing = joined (codes "not found: " ∷ name ∷ codes "\n" ∷ [])
-file_text name (Beyond end whole) = beyond_text name end whole
-file_text name (NoRoom shortage) = short_text shortage.asked
-file_text name (At place bytes) = joined (codes "file " ∷ name ∷ codes " " ∷ decimal (length bytes) ∷ codes " at " ∷ decimal place ∷ codes "\n" ∷ [])
+-- A command on a file that was loaded: `did` says what it does with the bytes at their place, in the memory after the load. Each
+-- refusal is told, and leaves what the load leaves.
+abbrev pub with_load : (missing name : List ℕ) → (State → Memory → ℕ → List ℕ → Did) → State → Memory → Load → Did
+with_load missing name did s m Missing = loads (record s { memory = m }) (missing_text missing name)
+with_load missing name did s m (Beyond end whole) = loads (record s { memory = m }) (beyond_text name end whole)
+with_load missing name did s m (NoRoom shortage) = loads (record s { memory = m }) (short_text shortage.asked)
+with_load missing name did s m (At place bytes) = did s m place bytes
 
-abbrev pub filed : State → List ℕ → Loading → Did
-filed s name loading = loads (record s { memory = loading.after }) (file_text name loading.load)
+abbrev pub with_told : (missing name : List ℕ) → (State → Memory → ℕ → List ℕ → Did) → State → Option Loading → Did
+with_told missing name did s None = Untold
+with_told missing name did s (Some loading) = with_load missing name did s loading.after loading.load
 
--- `file`, by its name where that is lawful
-abbrev pub file_named : List Mount → State → Option (List ℕ) → Did
-file_named mounts s None = bad_name s
-file_named mounts s (Some name) = filed s name (load_low mounts s.memory name)
+-- a command on the file of a name, where that is lawful; `missing` stands before the name where there is no such file
+abbrev pub by_load : List ℕ → (List ℕ → State → Memory → ℕ → List ℕ → Did) → Option (List ℕ) → State → Did
+by_load missing did None s = bad_name s
+by_load missing did (Some name) s = with_told missing name (did name) s (load_low s.path.mounts s.memory name)
 
-abbrev pub answer_file : List Mount → State → List (List ℕ) → Did
-answer_file mounts s words = file_named mounts s (lawful_name (word_at 1 words))
+abbrev pub file_text : List ℕ → (size place : ℕ) → List ℕ
+file_text name size place = joined (codes "file " ∷ name ∷ codes " " ∷ decimal size ∷ codes " at " ∷ decimal place ∷ codes "\n" ∷ [])
+
+abbrev pub filed : List ℕ → State → Memory → ℕ → List ℕ → Did
+filed name s m place bytes = loads (record s { memory = m }) (file_text name (length bytes) place)
+
+abbrev pub answer_file : Option (List ℕ) → State → Did
+answer_file name s = by_load (codes "not found: ") filed name s
 
 -- the buffer holds 8191 bytes
 abbrev pub fits_in : List ℕ → List ℕ → Bool
@@ -73,54 +85,50 @@ fits_in text buffer = nat_le (length buffer + length text) 8191
 abbrev pub exec_text : List ℕ → Bool → List ℕ
 exec_text name fits = joined (codes "execing " ∷ name ∷ codes "\n" ∷ (if fits then [] else codes "overflow\n") ∷ [])
 
-abbrev pub inserted : State → Memory → List ℕ → List ℕ → Did
-inserted s m name text = loads (record s { memory = m; buffer = (if fits_in text s.buffer then text ++ s.buffer else s.buffer) }) (exec_text name (fits_in text s.buffer))
+abbrev pub inserted : List ℕ → State → Memory → List ℕ → Did
+inserted name s m text = loads (record s { memory = m; buffer = (if fits_in text s.buffer then text ++ s.buffer else s.buffer) }) (exec_text name (fits_in text s.buffer))
 
 -- what was loaded is inserted in front of the buffer, and the low hunk is freed to the mark before the load
-abbrev pub executed : State → List ℕ → Memory → Load → Did
-executed s name m Missing = loads (record s { memory = m }) (joined (codes "couldn't exec " ∷ name ∷ codes "\n" ∷ []))
-executed s name m (Beyond end whole) = loads (record s { memory = m }) (beyond_text name end whole)
-executed s name m (NoRoom shortage) = loads (record s { memory = m }) (short_text shortage.asked)
-executed s name m (At place bytes) = inserted s (low_free m (low_used s.memory)).after name (until_zero bytes)
+abbrev pub executed : List ℕ → State → Memory → ℕ → List ℕ → Did
+executed name s m place bytes = inserted name s (low_free m (low_used s.memory)).after (until_zero bytes)
 
-abbrev pub exec_named : List Mount → State → Option (List ℕ) → Did
-exec_named mounts s None = bad_name s
-exec_named mounts s (Some name) = executed s name (load_low mounts s.memory name).after (load_low mounts s.memory name).load
-
-abbrev pub answer_exec : List Mount → State → List (List ℕ) → Did
-answer_exec mounts s words = exec_named mounts s (lawful_name (word_at 1 words))
+abbrev pub answer_exec : Option (List ℕ) → State → Did
+answer_exec name s = by_load (codes "couldn't exec ") executed name s
 
 -- what a command does with a number and a name, which are refused in this order
-abbrev pub of_number_and_name : State → (ℕ → List ℕ → Did) → Option ℕ → Option (List ℕ) → Did
-of_number_and_name s did None name = bad_number s
-of_number_and_name s did (Some size) None = bad_name s
-of_number_and_name s did (Some size) (Some name) = did size name
+abbrev pub of_number_and_name : (ℕ → List ℕ → State → Did) → Option ℕ → Option (List ℕ) → State → Did
+of_number_and_name did None name s = bad_number s
+of_number_and_name did (Some size) None s = bad_name s
+of_number_and_name did (Some size) (Some name) s = did size name s
 
-abbrev pub block_text : (title name : List ℕ) → ℕ → Result ℕ Shortage → List ℕ
-block_text title name size (Err shortage) = short_text shortage.asked
-block_text title name size (Ok place) = joined (title ∷ name ∷ codes " " ∷ decimal size ∷ codes " at " ∷ decimal place ∷ codes "\n" ∷ [])
+abbrev pub block_text : (title name : List ℕ) → (size place : ℕ) → List ℕ
+block_text title name size place = joined (title ∷ name ∷ codes " " ∷ decimal size ∷ codes " at " ∷ decimal place ∷ codes "\n" ∷ [])
+
+abbrev pub given_text : (title name : List ℕ) → ℕ → Result ℕ Shortage → List ℕ
+given_text title name size (Err shortage) = short_text shortage.asked
+given_text title name size (Ok place) = block_text title name size place
 
 -- a block was asked for, and the memory gave this
 abbrev pub given_block : State → (title name : List ℕ) → ℕ → Answered (Result ℕ Shortage) → Did
-given_block s title name size given = takes (record s { memory = given.after }) (block_text title name size given.answer)
+given_block s title name size given = takes (record s { memory = given.after }) (given_text title name size given.answer)
 
 -- a low block, named by the name's base
-abbrev pub reserved : State → ℕ → List ℕ → Did
-reserved s size name = given_block s (codes "reserve ") name size (low_alloc s.memory size (base_of name))
+abbrev pub reserved : ℕ → List ℕ → State → Did
+reserved size name s = given_block s (codes "reserve ") name size (low_alloc s.memory size (base_of name))
 
-abbrev pub answer_reserve : State → List (List ℕ) → Did
-answer_reserve s words = of_number_and_name s (reserved s) (number_of (word_at 1 words)) (lawful_name (word_at 2 words))
+abbrev pub answer_reserve : Option ℕ → Option (List ℕ) → State → Did
+answer_reserve size name s = of_number_and_name reserved size name s
 
 -- the memory with no high block
 abbrev pub high_cleared : Memory → Memory
 high_cleared m = (high_free (high_mark m).after 0).after
 
 -- a high block in the place of all others, which are freed whether there is room or not
-abbrev pub video_set : State → ℕ → List ℕ → Did
-video_set s size name = given_block s (codes "video ") name size (high_alloc (high_cleared s.memory) size (base_of name))
+abbrev pub video_set : ℕ → List ℕ → State → Did
+video_set size name s = given_block s (codes "video ") name size (high_alloc (high_cleared s.memory) size (base_of name))
 
-abbrev pub answer_video : State → List (List ℕ) → Did
-answer_video s words = of_number_and_name s (video_set s) (number_of (word_at 1 words)) (lawful_name (word_at 2 words))
+abbrev pub answer_video : Option ℕ → Option (List ℕ) → State → Did
+answer_video size name s = of_number_and_name video_set size name s
 
 -- the host level becomes where the low hunk ends
 abbrev pub answer_level : State → Did
@@ -135,8 +143,8 @@ abbrev pub mount_lines : List MountRow → List ℕ
 mount_lines [] = []
 mount_lines (listed ∷ others) = mount_line listed ++ mount_lines others
 
-abbrev pub answer_path : List Mount → State → Did
-answer_path mounts s = says s Goes (mount_lines (map (λ (mount : Mount). mount.row) mounts))
+abbrev pub answer_path : State → Did
+answer_path s = says s Goes (mount_lines s.path.rows)
 
 abbrev pub answer_report : State → Did
 answer_report s = says s Goes (report_text s.memory)
@@ -157,25 +165,31 @@ alias_lines (a ∷ older) = alias_line a ++ alias_lines older
 abbrev pub list_aliases : State → Did
 list_aliases s = says s Goes (codes "Current alias commands:\n" ++ alias_lines (alias_texts s.memory s.newest))
 
+abbrev pub long_name_text : List ℕ
+long_name_text = joined (codes "Alias name is too long\n" ∷ [])
+
 abbrev pub alias_set_text : Result (Unit {0}) AliasRefusal → List ℕ
 alias_set_text (Ok done) = []
-alias_set_text (Err LongName) = joined (codes "Alias name is too long\n" ∷ [])
+alias_set_text (Err LongName) = long_name_text
 alias_set_text (Err (Full asked)) = full_text asked
 
 abbrev pub alias_was_set : State → AliasSet → Did
 alias_was_set s given = takes (record s { memory = given.after; newest = given.newest }) (alias_set_text given.answer)
 
 -- An alias stands for the words from the third on, each followed by a space, and a newline.
-abbrev pub make_alias : State → List (List ℕ) → Did
-make_alias s words = alias_was_set s (set_alias s.memory s.newest (word_at 1 words) (spaced (drop 2 words)))
+abbrev pub make_alias : List (List ℕ) → State → Did
+make_alias words s = alias_was_set s (set_alias s.memory s.newest (word_at 1 words) (spaced (drop 2 words)))
 
-abbrev pub answer_alias : State → List (List ℕ) → Did
-answer_alias s words = if length words == 1 then list_aliases s else make_alias s words
+abbrev pub answer_alias : List (List ℕ) → State → Did
+answer_alias words s = if length words == 1 then list_aliases s else make_alias words s
+
+abbrev pub expansion_text : Bool → List ℕ
+expansion_text fits = if fits then [] else joined (codes "overflow\n" ∷ [])
 
 -- the value of an alias goes in front of the buffer, where it fits
-abbrev pub answer_expansion : State → List ℕ → Did
-answer_expansion s value =
-    if fits_in value s.buffer then says (record s { buffer = value ++ s.buffer }) Goes [] else says s Goes (joined (codes "overflow\n" ∷ []))
+abbrev pub answer_expansion : List ℕ → State → Did
+answer_expansion value s =
+    says (record s { buffer = (if fits_in value s.buffer then value ++ s.buffer else s.buffer) }) Goes (expansion_text (fits_in value s.buffer))
 
 abbrev pub cvar_text : (name value : List ℕ) → List ℕ
 cvar_text name value = joined (codes "\"" ∷ name ∷ codes "\" is \"" ∷ value ∷ codes "\"\n" ∷ [])
@@ -187,54 +201,67 @@ cvar_set_text (Err asked) = full_text asked
 abbrev pub cvar_was_set : State → CvarSet → Did
 cvar_was_set s given = takes (record s { memory = given.given.after; cvars = given.cvars }) (cvar_set_text given.given.answer)
 
+abbrev pub make_cvar : List (List ℕ) → State → Did
+make_cvar words s = cvar_was_set s (set_cvar s.memory s.cvars (word_at 0 words) (word_at 1 words))
+
 -- A cvar shows its value, or is set to the second word.
-abbrev pub answer_cvar : State → (name value : List ℕ) → List (List ℕ) → Did
-answer_cvar s name value words =
-    if length words == 1 then says s Goes (cvar_text name value) else cvar_was_set s (set_cvar s.memory s.cvars name (word_at 1 words))
+abbrev pub answer_cvar : List (List ℕ) → List ℕ → State → Did
+answer_cvar words value s =
+    if length words == 1 then says s Goes (cvar_text (word_at 0 words) value) else make_cvar words s
 
-abbrev pub unknown_word : State → List ℕ → Did
-unknown_word s word = says s Goes (joined (codes "Unknown command \"" ∷ word ∷ codes "\"\n" ∷ []))
-
-abbrev pub unknown : State → List (List ℕ) → Did
-unknown s words = unknown_word s (word_at 0 words)
+abbrev pub unknown_text : List ℕ → List ℕ
+unknown_text word = joined (codes "Unknown command \"" ∷ word ∷ codes "\"\n" ∷ [])
 
 -- a first word that is no command and no alias
-abbrev pub by_cvar : State → List (List ℕ) → Option (List ℕ) → Did
-by_cvar s words None = unknown s words
-by_cvar s words (Some value) = answer_cvar s (word_at 0 words) value words
+abbrev pub by_cvar : List (List ℕ) → Option (List ℕ) → State → Did
+by_cvar words None s = says s Goes (unknown_text (word_at 0 words))
+by_cvar words (Some value) s = answer_cvar words value s
+
+abbrev pub cvar_or_unknown : List (List ℕ) → State → Did
+cvar_or_unknown words s = by_cvar words (cvar_value s.memory s.cvars (word_at 0 words)) s
 
 -- a first word that is no command: an alias in any case, else a cvar in exact case
-abbrev pub by_alias : State → List (List ℕ) → Option (List ℕ) → Did
-by_alias s words None = by_cvar s words (cvar_value s.memory s.cvars (word_at 0 words))
-by_alias s words (Some value) = answer_expansion s value
+abbrev pub by_alias : List (List ℕ) → Option (List ℕ) → State → Did
+by_alias words None s = cvar_or_unknown words s
+by_alias words (Some value) s = answer_expansion value s
 
-abbrev pub by_name : State → List (List ℕ) → Did
-by_name s words = by_alias s words (alias_value s.memory s.newest (word_at 0 words))
+abbrev pub by_name : List (List ℕ) → State → Did
+by_name words s = by_alias words (alias_value s.memory s.newest (word_at 0 words)) s
+
+-- the lawful name, or the number, that the word of this number is
+abbrev pub name_in : ℕ → List (List ℕ) → Option (List ℕ)
+name_in number words = lawful_name (word_at number words)
+
+abbrev pub number_in : ℕ → List (List ℕ) → Option ℕ
+number_in number words = number_of (word_at number words)
 
 -- one arm for each command
-abbrev pub by_verb : List Mount → State → List (List ℕ) → Option Verb → Did
-by_verb mounts s words None = by_name s words
-by_verb mounts s words (Some verb.File) = answer_file mounts s words
-by_verb mounts s words (Some verb.Echo) = answer_echo s words
-by_verb mounts s words (Some verb.Exec) = answer_exec mounts s words
-by_verb mounts s words (Some verb.Wait) = says s Waits []
-by_verb mounts s words (Some verb.Quit) = says s Quits []
-by_verb mounts s words (Some verb.Reserve) = answer_reserve s words
-by_verb mounts s words (Some verb.Video) = answer_video s words
-by_verb mounts s words (Some verb.Level) = answer_level s
-by_verb mounts s words (Some verb.Report) = answer_report s
-by_verb mounts s words (Some verb.Alias) = answer_alias s words
-by_verb mounts s words (Some verb.Path) = answer_path mounts s
+abbrev pub by_verb : Option Verb → List (List ℕ) → State → Did
+by_verb None words s = by_name words s
+by_verb (Some verb.File) words s = answer_file (name_in 1 words) s
+by_verb (Some verb.Echo) words s = answer_echo words s
+by_verb (Some verb.Exec) words s = answer_exec (name_in 1 words) s
+by_verb (Some verb.Wait) words s = says s Waits []
+by_verb (Some verb.Quit) words s = says s Quits []
+by_verb (Some verb.Reserve) words s = answer_reserve (number_in 1 words) (name_in 2 words) s
+by_verb (Some verb.Video) words s = answer_video (number_in 1 words) (name_in 2 words) s
+by_verb (Some verb.Level) words s = answer_level s
+by_verb (Some verb.Report) words s = answer_report s
+by_verb (Some verb.Alias) words s = answer_alias words s
+by_verb (Some verb.Path) words s = answer_path s
 
 -- a text without words does nothing
-abbrev pub by_words : List Mount → State → List (List ℕ) → Did
-by_words mounts s words = if length words == 0 then says s Goes [] else by_verb mounts s words (verb_of (word_at 0 words))
+abbrev pub by_words : List (List ℕ) → State → Did
+by_words words s = if length words == 0 then says s Goes [] else by_verb (verb_of (word_at 0 words)) words s
+
+abbrev pub too_long : State → Did
+too_long s = says s Goes (joined (codes "line too long\n" ∷ []))
 
 -- the command of a text that was taken, or of one that is too long
-abbrev pub by_text : List Mount → State → Option (List ℕ) → Did
-by_text mounts s None = says s Goes (joined (codes "line too long\n" ∷ []))
-by_text mounts s (Some text) = by_words mounts s (words_of text)
+abbrev pub by_text : Option (List ℕ) → State → Did
+by_text None s = too_long s
+by_text (Some text) s = by_words (words_of text) s
 
 -- the first command of the buffer
-unfoldable pub command : List Mount → State → Did
-command mounts s = by_text mounts (record s { buffer = (cut s.buffer).rest }) (kept (cut s.buffer).command)
+unfoldable pub command : State → Did
+command s = by_text (kept (cut s.buffer).command) (record s { buffer = (cut s.buffer).rest })

@@ -1,26 +1,34 @@
 -- Frames of commands, and input lines.
 use Prim.Native.Nat.{zero, suc}
-use Rattle.std.specs.Prelude.{◌≡◌, ℕ, List, [], ◌∷◌, ◌++◌, length, Bool, true, false, ◌==◌, if◌then◌else◌, Option, Some, None, Result, Ok, Err, codes}
+use Rattle.std.specs.Prelude.{◌≡◌, ◌⊎◌, ℕ, List, [], ◌∷◌, ◌++◌, length, Bool, true, false, ◌==◌, if◌then◌else◌, Option, Some, None, Result, Ok, Err, codes}
+use Rattle.std.specs.List.{AllByRecursion}
 use Rattle.base_fields.specs.Texts.{until_zero}
-use Rattle.search_paths.specs.Mounts.{Mount}
 use Rattle.outside_io.specs.Streams.{Adds}
-use Rattle.console_session.specs.States.{State, Reply, CutsOff}
+use Rattle.console_session.specs.States.{State, Reply, Done, Did, Told, Untold, CutsOff, StillPut}
 use Rattle.console_session.specs.Commands.{command, fits_in}
 use Rattle.console_session.specs.declared.ends.Next.{Next}
 use Rattle.console_session.specs.declared.ends.Next.TheVariants.{Goes, Waits, Quits}
 use Rattle.console_session.specs.declared.ends.Fault.{Fault}
 
--- a run of commands: the state after it, the replies, and whether `quit` was executed
-pub record Ran : Type 0 where
+-- where a run ends: the state then, and whether `quit` was executed
+pub record Ended : Type 0 where
   pub after : State
-  pub replies : List Reply
   pub quit : Bool
+
+-- A run of commands: the replies, and where it ends. It is told up to the first command that isn't, and no end is told then.
+pub record Ran : Type 0 where
+  pub replies : List Reply
+  pub end : Option Ended
 
 abbrev pub plain : List ℕ → Reply
 plain text = record { text = text; load = false; takes = false }
 
 abbrev pub stopped : State → List Reply → Bool → Ran
-stopped s replies quit = record { after = s; replies = replies; quit = quit }
+stopped s replies quit = record { replies = replies; end = Some (record { after = s; quit = quit }) }
+
+-- a run of which nothing is told
+abbrev pub untold : Ran
+untold = record { replies = []; end = None }
 
 -- a reply, and then what follows
 abbrev pub and_then : Reply → Ran → Ran
@@ -32,40 +40,51 @@ ending through Goes = None
 ending through Waits = if through then None else Some false
 ending through Quits = Some true
 
--- what follows a command
-abbrev pub continued : Reply → State → Option Bool → (State → Ran) → Ran
-continued reply s None rest = and_then reply (rest s)
-continued reply s (Some quit) rest = stopped s (reply ∷ []) quit
+-- what follows a command that was done
+abbrev pub gone_on : Done → Option Bool → (State → Ran) → Ran
+gone_on done None rest = and_then done.reply (rest done.after)
+gone_on done (Some quit) rest = stopped done.after (done.reply ∷ []) quit
+
+-- a command, and what follows
+abbrev pub continued : Did → (Next → Option Bool) → (State → Ran) → Ran
+continued (Told done) ends rest = gone_on done (ends done.next) rest
+continued Untold ends rest = untold
 
 -- the commands of the buffer, of which at most so many are taken
-unfoldable pub frame : Bool → List Mount → ℕ → State → Ran
-frame through mounts zero s = if length s.buffer == 0 then stopped s [] false else stopped (record s { buffer = [] }) (plain (codes "runaway\n") ∷ []) false
-frame through mounts (suc n) s = if length s.buffer == 0 then stopped s [] false
-    else continued (command mounts s).reply (command mounts s).after (ending through (command mounts s).next) (λ after. frame through mounts n after)
+unfoldable pub frame : Bool → ℕ → State → Ran
+frame through zero s = if length s.buffer == 0 then stopped s [] false else stopped (record s { buffer = [] }) (plain (codes "runaway\n") ∷ []) false
+frame through (suc n) s = if length s.buffer == 0 then stopped s [] false
+    else continued (command s) (ending through) (λ after. frame through n after)
 
 -- what an input line adds to the buffer
 abbrev pub input : List ℕ → List ℕ
 input text = until_zero text ++ 10 ∷ []
 
-unfoldable pub overflowed : List Mount → State → Ran
-overflowed mounts s = and_then (plain (codes "overflow\n")) (frame false mounts 4096 s)
+unfoldable pub overflowed : State → Ran
+overflowed s = and_then (plain (codes "overflow\n")) (frame false 4096 s)
 
-unfoldable pub line : List Mount → State → List ℕ → Ran
-line mounts s text = if fits_in (input text) s.buffer then frame false mounts 4096 (record s { buffer = s.buffer ++ input text })
-    else overflowed mounts s
+unfoldable pub line : List ℕ → State → Ran
+line text s = if fits_in (input text) s.buffer then frame false 4096 (record s { buffer = s.buffer ++ input text })
+    else overflowed s
 
-unfoldable pub finish : List Mount → State → Ran
-finish mounts s = frame true mounts 4096 s
+abbrev pub finish : State → Ran
+finish s = frame true 4096 s
 
 abbrev pub texts : List Reply → List ℕ
 texts [] = []
 texts (reply ∷ replies) = reply.text ++ texts replies
 
+-- the run is told to its end, and no command of it asks for a file
+pub record NoneAsks (ran : Ran) : Type 0 where
+  pub last : Ended
+  pub ends : ran.end ≡ Some last
+  pub none : AllByRecursion (λ (reply : Reply). reply.load ≡ false) ran.replies
+
 -- all replies were put
-pub record IsRun (ran : Ran) (answer : Bool) (new : State) (start now : Option (List ℕ)) : Type 0 where
-  pub quit : ran.quit ≡ answer
-  pub after : new ≡ ran.after
-  pub put : Adds (texts ran.replies) start now
+pub record IsRun (replies : List Reply) (end : Ended) (answer : Bool) (new : State) (start now : Option (List ℕ)) : Type 0 where
+  pub quit : end.quit ≡ answer
+  pub after : new ≡ end.after
+  pub put : Adds (texts replies) start now
 
 -- the replies before one reply were put, and a fault ended that one
 pub record IsCutShort (replies : List Reply) (fault : Fault) (start now : Option (List ℕ)) : Type 0 where
@@ -77,7 +96,18 @@ pub record IsCutShort (replies : List Reply) (fault : Fault) (start now : Option
   pub put : Adds (texts before) start mid
   pub part : CutsOff reply fault mid now
 
--- A run was done whole, or a fault ended it; `answer` tells whether `quit` was executed.
+-- the replies were put, and what isn't told may have been put behind them
+pub record BeginsWith (replies : List Reply) (start now : Option (List ℕ)) : Type 0 where
+  pub mid : Option (List ℕ)
+  pub put : Adds (texts replies) start mid
+  pub more : StillPut mid now
+
+-- What is told of a run was done whole, or a fault ended it; `answer` tells whether `quit` was executed.
+abbrev pub GoesAs : List Reply → Option Ended → Result Bool Fault → State → (start now : Option (List ℕ)) → Type 0
+GoesAs replies (Some end) (Ok quit) after start now = IsRun replies end quit after start now
+GoesAs replies (Some end) (Err fault) after start now = IsCutShort replies fault start now
+GoesAs replies None (Ok quit) after start now = BeginsWith replies start now
+GoesAs replies None (Err fault) after start now = IsCutShort replies fault start now ⊎ BeginsWith replies start now
+
 abbrev pub Runs : Ran → Result Bool Fault → State → (start now : Option (List ℕ)) → Type 0
-Runs ran (Ok quit) after start now = IsRun ran quit after start now
-Runs ran (Err fault) after start now = IsCutShort ran.replies fault start now
+Runs ran result after start now = GoesAs ran.replies ran.end result after start now

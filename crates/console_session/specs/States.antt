@@ -1,6 +1,9 @@
 -- The state of a console, and what a command does to it.
 use Rattle.std.specs.Prelude.{◌≡◌, ◌<◌, ◌≤◌, ℕ, List, [], length, Bool, true, false, Option, None, Result, Ok, Err, IfErr}
 use Rattle.outside_io.specs.Causes.{Rose}
+use Rattle.outside_io.specs.Files.{File}
+use Rattle.search_paths.specs.Mounts.{Mount}
+use Rattle.search_paths.specs.declared.answers.MountRow.{MountRow}
 use Rattle.search_paths.specs.Counts.{NoneFalls, RoseAt}
 use Rattle.outside_io.specs.Streams.{Adds, AddsFront}
 use Rattle.mem_model.specs.Memory.{Memory, low_used, new_memory}
@@ -10,10 +13,18 @@ use Rattle.console_session.specs.declared.ends.Next.TheVariants.{Goes}
 use Rattle.console_session.specs.declared.ends.Fault.{Fault}
 use Rattle.console_session.specs.declared.ends.Fault.TheVariants as fault
 
--- The memory; the bytes of the command buffer; the host level, a mark of the low hunk; the cvars; and the record of the newest
--- alias. The values of the cvars, and the aliases, are read from the memory.
+-- What is seen of a path: how its mounts are listed, from its front on; each of them, where its folder tells its files; and what
+-- each folder tells.
+pub record PathSeen : Type 0 where
+  pub rows : List MountRow
+  pub mounts : List (Option Mount)
+  pub told : List (Option (List File))
+
+-- The memory; the path; the bytes of the command buffer; the host level, a mark of the low hunk; the cvars; and the record of the
+-- newest alias. The values of the cvars, and the aliases, are read from the memory.
 pub record State : Type 0 where
   pub memory : Memory
+  pub path : PathSeen
   pub buffer : List ℕ
   pub level : ℕ
   pub cvars : List Cvar
@@ -32,9 +43,10 @@ cvars_in (Ok cvars) = cvars
 cvars_in (Err asked) = []
 
 -- At the start the cvars have their defaults, there is no alias, the buffer is empty, and the host level is where the low hunk ends.
-abbrev pub started : Memory → State
-started m = record {
+abbrev pub started : Memory → PathSeen → State
+started m path = record {
   memory = (created m defaults).after;
+  path = path;
   buffer = [];
   level = low_used m;
   cvars = cvars_in (created m defaults).answer;
@@ -48,28 +60,38 @@ pub record Reply : Type 0 where
   pub takes : Bool
 
 -- what a command does: the state after it, its reply, and how the console goes on
-pub record Did : Type 0 where
+pub record Done : Type 0 where
   pub after : State
   pub reply : Reply
   pub next : Next
 
+-- What a command does is told but where it asks for a file and comes to a mount that isn't told before the first that has it.
+pub data Did : Type 0 where
+  Told : Done → Did
+  Untold : Did
+
+-- whether it asks for a file
+abbrev pub asks : Did → Bool
+asks (Told done) = done.reply.load
+asks Untold = true
+
 -- a command that asks for neither
 abbrev pub says : State → Next → List ℕ → Did
-says s next text = record { after = s; reply = record { text = text; load = false; takes = false }; next = next }
+says s next text = Told (record { after = s; reply = record { text = text; load = false; takes = false }; next = next })
 
 -- a command that asks for memory
 abbrev pub takes : State → List ℕ → Did
-takes s text = record { after = s; reply = record { text = text; load = false; takes = true }; next = Goes }
+takes s text = Told (record { after = s; reply = record { text = text; load = false; takes = true }; next = Goes })
 
 -- a command that asks for a file, and for memory to put it in
 abbrev pub loads : State → List ℕ → Did
-loads s text = record { after = s; reply = record { text = text; load = true; takes = true }; next = Goes }
+loads s text = Told (record { after = s; reply = record { text = text; load = true; takes = true }; next = Goes })
 
 -- All that a command does was done.
-pub record IsDone (did : Did) (answer : Next) (new : State) (start now : Option (List ℕ)) : Type 0 where
-  pub next : did.next ≡ answer
-  pub after : new ≡ did.after
-  pub put : Adds did.reply.text start now
+pub record IsDone (done : Done) (answer : Next) (new : State) (start now : Option (List ℕ)) : Type 0 where
+  pub next : done.next ≡ answer
+  pub after : new ≡ done.after
+  pub put : Adds done.reply.text start now
 
 -- A fault ended a command in its reply: a failing sink took a front of it, and nothing of it was put where a folder failed, of
 -- which the command asked for a file, or where the memory ran out that it asked for.
@@ -78,15 +100,16 @@ CutsOff reply fault.Write start now = AddsFront reply.text start now
 CutsOff reply (fault.Folder folder) start now = (reply.load ≡ true) × (now ≡ start)
 CutsOff reply fault.Memory start now = (reply.takes ≡ true) × (now ≡ start)
 
--- A call did what a command does, or a fault ended it in its reply.
-abbrev pub Follows : Did → Result Next Fault → State → (start now : Option (List ℕ)) → Type 0
-Follows did (Ok next) after start now = IsDone did next after start now
-Follows did (Err fault) after start now = CutsOff did.reply fault start now
+-- What was put before stands, and something may have been added.
+abbrev pub StillPut : (start now : Option (List ℕ)) → Type 0
+StillPut start now = (more : List ℕ) × Adds more start now
 
--- A reply was put, or a failing sink took a front of it.
-abbrev pub Replies : List ℕ → Next → Result Next Fault → (start now : Option (List ℕ)) → Type 0
-Replies text next (Ok answer) start now = (answer ≡ next) × Adds text start now
-Replies text next (Err error) start now = (error ≡ fault.Write) × AddsFront text start now
+-- A call did what a command does, or a fault ended it in its reply. Of one that isn't told nothing is known but that it took back
+-- nothing that was put.
+abbrev pub Follows : Did → Result Next Fault → State → (start now : Option (List ℕ)) → Type 0
+Follows (Told done) (Ok next) after start now = IsDone done next after start now
+Follows (Told done) (Err fault) after start now = CutsOff done.reply fault start now
+Follows Untold result after start now = StillPut start now
 
 -- A folder's fault names a folder whose count rose.
 abbrev pub CauseOf : Bool → (faults_before faults_now : List ℕ) → (sink_before sink_now : ℕ) → Fault → Type 0

@@ -1,6 +1,5 @@
 -- The commands by their names.
 use Rattle.std.specs.Prelude.{ℕ, List, [], ◌∷◌, Option, option_map, find, codes}
-use Rattle.std.specs.Borrow.{Bor}
 use Rattle.std.specs.Str.{str_eq_ignore_ascii_case}
 use Rattle.console_session.specs.declared.verbs.Verb.{Verb}
 use Rattle.console_session.specs.declared.verbs.Verb.TheVariants as verb
@@ -12,10 +11,6 @@ pub record Named : Type 0 where
 
 abbrev pub named : List ℕ → Verb → Named
 named name v = record { name = name; verb = v }
-
--- the same, as it stands in code
-abbrev pub named_verb : Bor (List ℕ) × Verb → Named
-named_verb row = named row.0.now row.1
 
 abbrev pub verbs : List Named
 verbs =

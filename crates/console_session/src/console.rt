@@ -3,7 +3,7 @@ ghost use Rattle.std.specs.Prelude.{◌≡◌, ◌<◌, Some, length, slice_get,
 ghost use Rattle.console_session.specs.States.{started, IsNew};
 ghost use Rattle.console_session.specs.Holding.{Holds};
 ghost use Rattle.search_paths.specs.Path.{counts_of};
-ghost use Rattle.console_session.specs.Sessions.{state_of};
+ghost use Rattle.console_session.specs.Serving.{seen, path_of};
 
 mod commands;
 mod frames;
@@ -34,8 +34,9 @@ impl<M: Store, F: Folder> Console<M, F> {
     // A console over a store that was just created.
     pub fn start(store: M, paths: Paths<F>) -> Result<Console<M, F>, AllocError>
         requires new { IsNew (M.state store) }
-        ensures state { IfOk result (λ console. state_of M.state console ≡ started (M.state store)) }
-        ensures holds { IfOk result (λ console. Holds (state_of M.state console)) }
+        ensures state { IfOk result (λ console.
+            seen M.Store F.Folder console ≡ started (M.state store) (path_of F.Folder paths)) }
+        ensures holds { IfOk result (λ console. Holds (seen M.Store F.Folder console)) }
         ensures paths { IfOk result (λ console. console.paths ≡ paths) }
         ensures going { IfOk result (λ console. console.ended ≡ false) }
         ensures memory { OnErr result (M.frugal ≡ false) }

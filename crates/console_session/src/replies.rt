@@ -1,16 +1,20 @@
-// The replies of commands.
-ghost use Rattle.std.specs.Prelude.{◌≡◌, ◌≤◌, ◌++◌, ◌∷◌, [], drop, OnOk, OnErr, IfOk, IfErr, if◌then◌else◌, false, codes, decimal, Ok};
-ghost use Rattle.outside_io.specs.Causes.{HasCause, Rose};
+// The replies of commands. Each text is decided here once.
+ghost use Rattle.std.specs.Prelude.{◌≡◌, ◌++◌, ◌∷◌, [], drop, OnOk, OnErr, false, codes};
+ghost use Rattle.outside_io.specs.Causes.{HasCause};
 ghost use Rattle.search_paths.specs.Path.{rows_of};
-ghost use Rattle.outside_io.specs.Streams.{Adds, AddsFront};
+ghost use Rattle.outside_io.specs.Streams.{AddsFront};
 ghost use Rattle.reply_pieces.specs.Pieces.{text_of, joined, HoldsBack};
 ghost use Rattle.cmd_buffer.specs.Aliases.{HoldsAliases, alias_texts};
-ghost use Rattle.console_session.specs.States.{Replies};
-ghost use Rattle.console_session.specs.Commands.{block_text, short_text, full_text, spaced, exec_text, cvar_text, alias_lines, beyond_text, mount_line, mount_lines};
+ghost use Rattle.block_report.specs.Reports.{report_text};
+ghost use Rattle.console_session.specs.Telling.{Puts, load_told, block_told, cvar_told, alias_told};
+ghost use Rattle.console_session.specs.Commands.{missing_text, beyond_text, short_text, full_text, long_name_text, block_text, spaced, exec_text, file_text, cvar_text, alias_lines, expansion_text, unknown_text, mount_line, mount_lines};
 
 use crate::ends::{Fault, Next};
-use cmd_buffer::{Aliases, Words};
-use mem_model::{Place, Store};
+use base_fields::GameName;
+use block_report::report;
+use cmd_buffer::{AliasError, Aliases, Words};
+use file_load::LoadError;
+use mem_model::{Place, RoomError, Store, ZoneError};
 use outside_io::{Folder, Sink, SinkFailed};
 use reply_pieces::{Piece, Reply, put_all};
 use search_paths::{MountRow, Paths};
@@ -18,25 +22,18 @@ use search_paths::{MountRow, Paths};
 // A path has 65536 folders at most, each with 32 packs at most.
 const MOST_MOUNTS: u32 = 33 * 65536;
 
-// Puts a reply, after which the console goes on like this.
-pub fn reply<O: Sink>(out: &mut O, next: Next, pieces: &[Piece]) -> Result<Next, Fault>
-    ensures replies { Replies (text_of pieces.now) next result (O.got out.old) (O.got out.new) }
-    ensures write { OnErr result (Rose (O.sink_faults out.old) (O.sink_faults out.new)) }
-    ensures faults { O.sink_faults out.old ≤ O.sink_faults out.new }
+// Puts a reply, after which the console goes on.
+pub fn reply<O: Sink>(out: &mut O, pieces: &[Piece]) -> Result<Next, Fault>
+    ensures { Puts O.Sink (Ok (text_of pieces.now)) Next.Goes out.old out.new result }
 {
     match put_all(out, pieces) {
-        Ok(()) => Ok(next),
+        Ok(()) => Ok(Next::Goes),
         Err(_) => Err(Fault::Write),
     }
 }
 
 pub fn put_runaway<O: Sink>(out: &mut O) -> Result<bool, Fault>
-    ensures put { OnOk result (Adds (codes "runaway\n") (O.got out.old) (O.got out.new)) }
-    ensures end { IfOk result (λ quit. quit ≡ false) }
-    ensures part { OnErr result (AddsFront (codes "runaway\n") (O.got out.old) (O.got out.new)) }
-    ensures fault { IfErr result (λ e. e ≡ Fault.Write) }
-    ensures write { OnErr result (Rose (O.sink_faults out.old) (O.sink_faults out.new)) }
-    ensures faults { O.sink_faults out.old ≤ O.sink_faults out.new }
+    ensures { Puts O.Sink (Ok (codes "runaway\n")) false out.old out.new result }
 {
     match out.put(b"runaway\n") {
         Ok(()) => Ok(false),
@@ -44,31 +41,30 @@ pub fn put_runaway<O: Sink>(out: &mut O) -> Result<bool, Fault>
     }
 }
 
-pub fn put_bad_name<O: Sink>(out: &mut O) -> Result<Next, Fault>
-    ensures replies { Replies (joined (codes "bad name\n" ∷ [])) Next.Goes result (O.got out.old) (O.got out.new) }
-    ensures write { OnErr result (Rose (O.sink_faults out.old) (O.sink_faults out.new)) }
-    ensures faults { O.sink_faults out.old ≤ O.sink_faults out.new }
+pub fn put_too_long<O: Sink>(out: &mut O) -> Result<Next, Fault>
+    ensures { Puts O.Sink (Ok (joined (codes "line too long\n" ∷ []))) Next.Goes out.old out.new result }
 {
-    reply(out, Next::Goes, &[Piece::Text(b"bad name\n")])
+    reply(out, &[Piece::Text(b"line too long\n")])
+}
+
+pub fn put_bad_name<O: Sink>(out: &mut O) -> Result<Next, Fault>
+    ensures { Puts O.Sink (Ok (joined (codes "bad name\n" ∷ []))) Next.Goes out.old out.new result }
+{
+    reply(out, &[Piece::Text(b"bad name\n")])
 }
 
 pub fn put_bad_number<O: Sink>(out: &mut O) -> Result<Next, Fault>
-    ensures replies { Replies (joined (codes "bad number\n" ∷ [])) Next.Goes result (O.got out.old) (O.got out.new) }
-    ensures write { OnErr result (Rose (O.sink_faults out.old) (O.sink_faults out.new)) }
-    ensures faults { O.sink_faults out.old ≤ O.sink_faults out.new }
+    ensures { Puts O.Sink (Ok (joined (codes "bad number\n" ∷ []))) Next.Goes out.old out.new result }
 {
-    reply(out, Next::Goes, &[Piece::Text(b"bad number\n")])
+    reply(out, &[Piece::Text(b"bad number\n")])
 }
 
 // Says that a block of this need was refused.
-pub fn put_short<O: Sink>(out: &mut O, asked: u64) -> Result<Next, Fault>
-    ensures replies { Replies (short_text asked) Next.Goes result (O.got out.old) (O.got out.new) }
-    ensures write { OnErr result (Rose (O.sink_faults out.old) (O.sink_faults out.new)) }
-    ensures faults { O.sink_faults out.old ≤ O.sink_faults out.new }
+fn put_short<O: Sink>(out: &mut O, asked: u64) -> Result<Next, Fault>
+    ensures { Puts O.Sink (Ok (short_text asked)) Next.Goes out.old out.new result }
 {
     reply(
         out,
-        Next::Goes,
         &[
             Piece::Text(b"failed on "),
             Piece::Number(asked),
@@ -78,14 +74,11 @@ pub fn put_short<O: Sink>(out: &mut O, asked: u64) -> Result<Next, Fault>
 }
 
 // Says that a zone block of this size was refused.
-pub fn put_full<O: Sink>(out: &mut O, asked: u64) -> Result<Next, Fault>
-    ensures replies { Replies (full_text asked) Next.Goes result (O.got out.old) (O.got out.new) }
-    ensures write { OnErr result (Rose (O.sink_faults out.old) (O.sink_faults out.new)) }
-    ensures faults { O.sink_faults out.old ≤ O.sink_faults out.new }
+fn put_full<O: Sink>(out: &mut O, asked: u64) -> Result<Next, Fault>
+    ensures { Puts O.Sink (Ok (full_text asked)) Next.Goes out.old out.new result }
 {
     reply(
         out,
-        Next::Goes,
         &[
             Piece::Text(b"zone full: "),
             Piece::Number(asked),
@@ -94,83 +87,74 @@ pub fn put_full<O: Sink>(out: &mut O, asked: u64) -> Result<Next, Fault>
     )
 }
 
-pub fn put_long_name<O: Sink>(out: &mut O) -> Result<Next, Fault>
-    ensures replies { Replies (joined (codes "Alias name is too long\n" ∷ [])) Next.Goes result (O.got out.old) (O.got out.new) }
-    ensures write { OnErr result (Rose (O.sink_faults out.old) (O.sink_faults out.new)) }
-    ensures faults { O.sink_faults out.old ≤ O.sink_faults out.new }
-{
-    reply(out, Next::Goes, &[Piece::Text(b"Alias name is too long\n")])
-}
-
-// Says nothing of an alias whose value was inserted, and else that there was no room.
-pub fn put_inserted<O: Sink>(out: &mut O, inserted: bool) -> Result<Next, Fault>
-    ensures replies { Replies (if inserted then [] else joined (codes "overflow\n" ∷ [])) Next.Goes result (O.got out.old) (O.got out.new) }
-    ensures write { OnErr result (Rose (O.sink_faults out.old) (O.sink_faults out.new)) }
-    ensures faults { O.sink_faults out.old ≤ O.sink_faults out.new }
-{
-    if inserted {
-        return Ok(Next::Goes);
-    }
-    reply(out, Next::Goes, &[Piece::Text(b"overflow\n")])
-}
-
-// Shows the value of a cvar.
-pub fn put_cvar<'a, O: Sink>(out: &mut O, name: &'a [u8], value: &'a [u8]) -> Result<Next, Fault>
-    ensures replies { Replies (cvar_text name.now value.now) Next.Goes result (O.got out.old) (O.got out.new) }
-    ensures write { OnErr result (Rose (O.sink_faults out.old) (O.sink_faults out.new)) }
-    ensures faults { O.sink_faults out.old ≤ O.sink_faults out.new }
-{
-    reply(
-        out,
-        Next::Goes,
-        &[
-            Piece::Text(b"\""),
-            Piece::Text(name),
-            Piece::Text(b"\" is \""),
-            Piece::Text(value),
-            Piece::Text(b"\"\n"),
-        ],
-    )
-}
-
-// Shows a new block.
-pub fn put_block<'a, O: Sink>(
+// Says of a file that there is none.
+fn put_missing<'a, O: Sink>(
     out: &mut O,
-    title: &'a [u8],
-    name: &'a [u8],
-    size: u32,
-    place: Place,
+    missing: &'a [u8],
+    name: &'a GameName,
 ) -> Result<Next, Fault>
-    ensures replies { Replies (block_text title.now name.now size (Ok place.0)) Next.Goes result (O.got out.old) (O.got out.new) }
-    ensures write { OnErr result (Rose (O.sink_faults out.old) (O.sink_faults out.new)) }
-    ensures faults { O.sink_faults out.old ≤ O.sink_faults out.new }
+    ensures { Puts O.Sink (Ok (missing_text missing.now name.now)) Next.Goes out.old out.new result }
 {
     reply(
         out,
-        Next::Goes,
         &[
-            Piece::Text(title),
-            Piece::Text(name),
-            Piece::Text(b" "),
-            Piece::Number(u64::from(size)),
-            Piece::Text(b" at "),
-            Piece::Number(u64::from(place.0)),
+            Piece::Text(missing),
+            Piece::Text(name.bytes()),
             Piece::Text(b"\n"),
         ],
     )
 }
 
-// Shows a loaded file.
-pub fn put_file<O: Sink>(out: &mut O, name: &[u8], size: u64, place: Place) -> Result<Next, Fault>
-    ensures replies { Replies (joined (codes "file " ∷ name.now ∷ codes " " ∷ decimal size ∷ codes " at " ∷ decimal place.0 ∷ codes "\n" ∷ [])) Next.Goes result (O.got out.old) (O.got out.new) }
-    ensures write { OnErr result (Rose (O.sink_faults out.old) (O.sink_faults out.new)) }
-    ensures faults { O.sink_faults out.old ≤ O.sink_faults out.new }
+// Says that a file ends past the end of its pack.
+fn put_beyond<O: Sink>(out: &mut O, name: &GameName, end: u64, whole: u64) -> Result<Next, Fault>
+    ensures { Puts O.Sink (Ok (beyond_text name.now end whole)) Next.Goes out.old out.new result }
 {
     reply(
         out,
-        Next::Goes,
         &[
-            Piece::Text(b"file "),
+            Piece::Text(b"beyond pack: "),
+            Piece::Text(name.bytes()),
+            Piece::Text(b" ends at "),
+            Piece::Number(end),
+            Piece::Text(b" of "),
+            Piece::Number(whole),
+            Piece::Text(b"\n"),
+        ],
+    )
+}
+
+// Says why a file was not loaded.
+pub fn put_load_error<'a, O: Sink>(
+    out: &mut O,
+    missing: &'a [u8],
+    name: &'a GameName,
+    error: LoadError,
+) -> Result<Next, Fault>
+    ensures { Puts O.Sink (load_told missing.now name.now error) Next.Goes out.old out.new result }
+{
+    match error {
+        LoadError::NotFound => put_missing(out, missing, name),
+        LoadError::BeyondPack { end, length } => put_beyond(out, name, end, length),
+        LoadError::NoRoom { asked, .. } => put_short(out, asked),
+        LoadError::FolderFault { folder, .. } => Err(Fault::Folder { folder }),
+        LoadError::OutOfMemory => Err(Fault::Memory),
+    }
+}
+
+// Shows a new block.
+fn put_place<'a, O: Sink>(
+    out: &mut O,
+    title: &'a [u8],
+    name: &'a [u8],
+    size: u64,
+    place: Place,
+) -> Result<Next, Fault>
+    ensures { Puts O.Sink (Ok (block_text title.now name.now size place.0)) Next.Goes out.old out.new result }
+{
+    reply(
+        out,
+        &[
+            Piece::Text(title),
             Piece::Text(name),
             Piece::Text(b" "),
             Piece::Number(size),
@@ -181,38 +165,111 @@ pub fn put_file<O: Sink>(out: &mut O, name: &[u8], size: u64, place: Place) -> R
     )
 }
 
-// Says of a file that there is none.
-pub fn put_missing<'a, O: Sink>(out: &mut O, title: &'a [u8], name: &'a [u8]) -> Result<Next, Fault>
-    ensures replies { Replies (joined (title.now ∷ name.now ∷ codes "\n" ∷ [])) Next.Goes result (O.got out.old) (O.got out.new) }
-    ensures write { OnErr result (Rose (O.sink_faults out.old) (O.sink_faults out.new)) }
-    ensures faults { O.sink_faults out.old ≤ O.sink_faults out.new }
+// Shows a loaded file.
+pub fn put_file<O: Sink>(
+    out: &mut O,
+    name: &GameName,
+    size: u64,
+    place: Place,
+) -> Result<Next, Fault>
+    ensures { Puts O.Sink (Ok (file_text name.now size place.0)) Next.Goes out.old out.new result }
+{
+    put_place(out, b"file ", name.bytes(), size, place)
+}
+
+// Shows a new block, or says why there is none.
+pub fn put_block<'a, O: Sink>(
+    out: &mut O,
+    title: &'a [u8],
+    name: &'a GameName,
+    size: u32,
+    given: Result<Place, RoomError>,
+) -> Result<Next, Fault>
+    ensures { Puts O.Sink (block_told title.now name.now size given) Next.Goes out.old out.new result }
+{
+    match given {
+        Ok(place) => put_place(out, title, name.bytes(), u64::from(size), place),
+        Err(RoomError::NoRoom { asked, .. }) => put_short(out, asked),
+        Err(RoomError::OutOfMemory) => Err(Fault::Memory),
+    }
+}
+
+// Says nothing of a cvar that was set, or why it was not.
+pub fn put_cvar_set<O: Sink>(out: &mut O, set: Result<bool, ZoneError>) -> Result<Next, Fault>
+    ensures { Puts O.Sink (cvar_told set) Next.Goes out.old out.new result }
+{
+    match set {
+        Ok(_) => Ok(Next::Goes),
+        Err(ZoneError::Full { asked }) => put_full(out, asked),
+        Err(ZoneError::OutOfMemory) => Err(Fault::Memory),
+    }
+}
+
+fn put_long_name<O: Sink>(out: &mut O) -> Result<Next, Fault>
+    ensures { Puts O.Sink (Ok (long_name_text)) Next.Goes out.old out.new result }
+{
+    reply(out, &[Piece::Text(b"Alias name is too long\n")])
+}
+
+// Says nothing of an alias that was set, or why it was not.
+pub fn put_alias_set<O: Sink>(out: &mut O, set: Result<(), AliasError>) -> Result<Next, Fault>
+    ensures { Puts O.Sink (alias_told set) Next.Goes out.old out.new result }
+{
+    match set {
+        Ok(()) => Ok(Next::Goes),
+        Err(AliasError::LongName) => put_long_name(out),
+        Err(AliasError::Zone(ZoneError::Full { asked })) => put_full(out, asked),
+        Err(AliasError::Zone(ZoneError::OutOfMemory)) => Err(Fault::Memory),
+    }
+}
+
+// Says nothing of an alias whose value was inserted, and else that there was no room.
+pub fn put_inserted<O: Sink>(out: &mut O, inserted: bool) -> Result<Next, Fault>
+    ensures { Puts O.Sink (Ok (expansion_text inserted)) Next.Goes out.old out.new result }
+{
+    if inserted {
+        return Ok(Next::Goes);
+    }
+    reply(out, &[Piece::Text(b"overflow\n")])
+}
+
+// Shows the value of a cvar.
+pub fn put_cvar<'a, O: Sink>(out: &mut O, name: &'a [u8], value: &'a [u8]) -> Result<Next, Fault>
+    ensures { Puts O.Sink (Ok (cvar_text name.now value.now)) Next.Goes out.old out.new result }
 {
     reply(
         out,
-        Next::Goes,
-        &[Piece::Text(title), Piece::Text(name), Piece::Text(b"\n")],
+        &[
+            Piece::Text(b"\""),
+            Piece::Text(name),
+            Piece::Text(b"\" is \""),
+            Piece::Text(value),
+            Piece::Text(b"\"\n"),
+        ],
     )
 }
 
-// Says that a file ends past the end of its pack.
-pub fn put_beyond<O: Sink>(out: &mut O, name: &[u8], end: u64, whole: u64) -> Result<Next, Fault>
-    ensures replies { Replies (beyond_text name.now end whole) Next.Goes result (O.got out.old) (O.got out.new) }
-    ensures write { OnErr result (Rose (O.sink_faults out.old) (O.sink_faults out.new)) }
-    ensures faults { O.sink_faults out.old ≤ O.sink_faults out.new }
+pub fn put_unknown<O: Sink>(out: &mut O, word: &[u8]) -> Result<Next, Fault>
+    ensures { Puts O.Sink (Ok (unknown_text word.now)) Next.Goes out.old out.new result }
 {
     reply(
         out,
-        Next::Goes,
         &[
-            Piece::Text(b"beyond pack: "),
-            Piece::Text(name),
-            Piece::Text(b" ends at "),
-            Piece::Number(end),
-            Piece::Text(b" of "),
-            Piece::Number(whole),
-            Piece::Text(b"\n"),
+            Piece::Text(b"Unknown command \""),
+            Piece::Text(word),
+            Piece::Text(b"\"\n"),
         ],
     )
+}
+
+// Shows the blocks of the memory.
+pub fn put_report<M: Store, O: Sink>(store: &M, out: &mut O) -> Result<Next, Fault>
+    ensures { Puts O.Sink (Ok (report_text (M.state store.now))) Next.Goes out.old out.new result }
+{
+    match report(store, out) {
+        Ok(()) => Ok(Next::Goes),
+        Err(_) => Err(Fault::Write),
+    }
 }
 
 // Adds the line of a mount.
@@ -255,7 +312,8 @@ fn add_mounts<F: Folder, O: Sink>(
     lines: &mut Reply,
     out: &mut O,
 ) -> Result<(), SinkFailed>
-    ensures added { OnOk result (HoldsBack (lines.old ++ mount_lines (rows_of paths.now)) lines.new (O.got out.old) (O.got out.new)) }
+    ensures added { OnOk result
+        (HoldsBack (lines.old ++ mount_lines (rows_of paths.now)) lines.new (O.got out.old) (O.got out.new)) }
     ensures part { OnErr result (AddsFront (lines.old ++ mount_lines (rows_of paths.now)) (O.got out.old) (O.got out.new)) }
     ensures cause { HasCause (O.sink_faults out.old) (O.sink_faults out.new) result }
 {
@@ -272,9 +330,7 @@ fn add_mounts<F: Folder, O: Sink>(
 
 // Shows the mounts, from the front of the path.
 pub fn put_mounts<F: Folder, O: Sink>(paths: &Paths<F>, out: &mut O) -> Result<Next, Fault>
-    ensures replies { Replies (mount_lines (rows_of paths.now)) Next.Goes result (O.got out.old) (O.got out.new) }
-    ensures write { OnErr result (Rose (O.sink_faults out.old) (O.sink_faults out.new)) }
-    ensures faults { O.sink_faults out.old ≤ O.sink_faults out.new }
+    ensures { Puts O.Sink (Ok (mount_lines (rows_of paths.now))) Next.Goes out.old out.new result }
 {
     let mut lines = Reply::new();
     if let Err(_) = add_mounts(paths, &mut lines, out) {
@@ -285,9 +341,7 @@ pub fn put_mounts<F: Folder, O: Sink>(paths: &Paths<F>, out: &mut O) -> Result<N
 
 // Puts what is held back of some lines.
 fn end_lines<O: Sink>(lines: Reply, out: &mut O) -> Result<Next, Fault>
-    ensures replies { Replies lines Next.Goes result (O.got out.old) (O.got out.new) }
-    ensures write { OnErr result (Rose (O.sink_faults out.old) (O.sink_faults out.new)) }
-    ensures faults { O.sink_faults out.old ≤ O.sink_faults out.new }
+    ensures { Puts O.Sink (Ok (lines)) Next.Goes out.old out.new result }
 {
     match lines.finish(out) {
         Ok(()) => Ok(Next::Goes),
@@ -295,17 +349,14 @@ fn end_lines<O: Sink>(lines: Reply, out: &mut O) -> Result<Next, Fault>
     }
 }
 
-pub fn put_executed<O: Sink>(out: &mut O, name: &[u8], inserted: bool) -> Result<Next, Fault>
-    ensures replies { Replies (exec_text name.now inserted) Next.Goes result (O.got out.old) (O.got out.new) }
-    ensures write { OnErr result (Rose (O.sink_faults out.old) (O.sink_faults out.new)) }
-    ensures faults { O.sink_faults out.old ≤ O.sink_faults out.new }
+pub fn put_executed<O: Sink>(out: &mut O, name: &GameName, inserted: bool) -> Result<Next, Fault>
+    ensures { Puts O.Sink (Ok (exec_text name.now inserted)) Next.Goes out.old out.new result }
 {
     reply(
         out,
-        Next::Goes,
         &[
             Piece::Text(b"execing "),
-            Piece::Text(name),
+            Piece::Text(name.bytes()),
             Piece::Text(b"\n"),
             Piece::Text(if inserted { b"" } else { b"overflow\n" }),
         ],
@@ -314,32 +365,16 @@ pub fn put_executed<O: Sink>(out: &mut O, name: &[u8], inserted: bool) -> Result
 
 // Each word after the first and a space, and a newline.
 pub fn put_echo<O: Sink>(words: &Words<'_>, out: &mut O) -> Result<Next, Fault>
-    ensures replies { Replies (spaced (drop 1 words.now)) Next.Goes result (O.got out.old) (O.got out.new) }
-    ensures write { OnErr result (Rose (O.sink_faults out.old) (O.sink_faults out.new)) }
-    ensures faults { O.sink_faults out.old ≤ O.sink_faults out.new }
+    ensures { Puts O.Sink (Ok (spaced (drop 1 words.now))) Next.Goes out.old out.new result }
 {
-    let mut line = Reply::new();
-    for number in 1..words.count() {
-        if let Err(_) = line.add_all(&[Piece::Text(words.word(number)), Piece::Text(b" ")], out) {
+    let mut left = words.rest();
+    'words: while let Some(word) = left.first() {
+        if let Err(_) = put_all(out, &[Piece::Text(word), Piece::Text(b" ")]) {
             return Err(Fault::Write);
         }
+        left = left.rest();
     }
-    end_echo(line, out)
-}
-
-// Ends the line of words.
-fn end_echo<O: Sink>(mut line: Reply, out: &mut O) -> Result<Next, Fault>
-    ensures replies { Replies (line ++ 10 ∷ []) Next.Goes result (O.got out.old) (O.got out.new) }
-    ensures write { OnErr result (Rose (O.sink_faults out.old) (O.sink_faults out.new)) }
-    ensures faults { O.sink_faults out.old ≤ O.sink_faults out.new }
-{
-    if let Err(_) = line.add(&Piece::Text(b"\n"), out) {
-        return Err(Fault::Write);
-    }
-    match line.finish(out) {
-        Ok(()) => Ok(Next::Goes),
-        Err(_) => Err(Fault::Write),
-    }
+    reply(out, &[Piece::Text(b"\n")])
 }
 
 // Shows the aliases, the newest first.
@@ -348,10 +383,10 @@ pub fn put_aliases<M: Store, O: Sink>(
     aliases: &Aliases,
     out: &mut O,
 ) -> Result<Next, Fault>
-    requires holds { HoldsAliases (M.state store.now) aliases.now }
-    ensures replies { Replies (codes "Current alias commands:\n" ++ alias_lines (alias_texts (M.state store.now) aliases.now)) Next.Goes result (O.got out.old) (O.got out.new) }
-    ensures write { OnErr result (Rose (O.sink_faults out.old) (O.sink_faults out.new)) }
-    ensures faults { O.sink_faults out.old ≤ O.sink_faults out.new }
+    requires { HoldsAliases (M.state store.now) aliases.now }
+    ensures { Puts O.Sink
+        (Ok (codes "Current alias commands:\n" ++ alias_lines (alias_texts (M.state store.now) aliases.now)))
+        Next.Goes out.old out.new result }
 {
     let mut lines = Reply::new();
     if let Err(_) = lines.add(&Piece::Text(b"Current alias commands:\n"), out) {

@@ -1,13 +1,15 @@
 // A session of the console.
-ghost use Rattle.std.specs.Prelude.{◌≡◌, ◌<◌, Some, length, slice_get, IfSome, IfOk, OnErr, false, true};
+ghost use Rattle.std.specs.Prelude.{◌≡◌, ◌<◌, Some, length, slice_get, IfOk, OnErr, false, true};
 ghost use Rattle.mem_model.specs.Laid.{Laid};
 ghost use Rattle.console_session.specs.States.{started, IsNew, HasCauses};
 ghost use Rattle.search_paths.specs.Path.{counts_of};
-ghost use Rattle.console_session.specs.Sessions.{path_of, told_end, is_end};
-ghost use Rattle.console_session.specs.Frames.{finish, line, Runs};
+ghost use Rattle.console_session.specs.Serving.{path_of};
+ghost use Rattle.console_session.specs.Sessions.{told_end, is_end};
+ghost use Rattle.console_session.specs.Frames.{finish, line, Runs, NoneAsks};
 
 use crate::console::Console;
 use crate::ends::{Fault, StepEnd};
+use cmd_buffer::CommandText;
 use mem_model::Store;
 use outside_io::{Folder, Sink};
 use search_paths::Paths;
@@ -19,23 +21,26 @@ use std::marker::Model;
 #[derive(Drop)]
 pub struct Session<M: Store, F: Folder = Box<dyn Folder>> {
     console: Console<M, F>,
+    // The command that is run.
+    text: CommandText,
 }
 
 impl<M: Store, F: Folder> Model for Session<M, F> {
     ghost use Rattle.search_paths.specs.Path.{counts_of};
     ghost use Rattle.console_session.specs.Holding.{Holds};
-    ghost use Rattle.console_session.specs.Sessions.{Seen, path_of, state_of};
+    ghost use Rattle.console_session.specs.Serving.{seen};
+    ghost use Rattle.console_session.specs.Sessions.{Seen};
 
     ghost Value = { Seen };
 
     ghost view = { λ s. record {
-      state = state_of M.state s.console;
-      path = path_of F.files s.console.paths;
+      state = seen M.Store F.Folder s.console;
       faults = counts_of F.folder_faults s.console.paths;
+      calls = counts_of F.folder_calls s.console.paths;
       ended = s.console.ended;
     } };
 
-    ghost invariant = { λ s. Holds (state_of M.state s.console) };
+    ghost invariant = { λ s. Holds (seen M.Store F.Folder s.console) };
 }
 
 impl<M: Store, F: Folder> Session<M, F> {
@@ -45,14 +50,16 @@ impl<M: Store, F: Folder> Session<M, F> {
     /// only a store that isn't frugal may refuse, for want of memory, and is dropped then with the path.
     pub fn start(store: M, paths: Paths<F>) -> Result<Session<M, F>, AllocError>
         requires new { IsNew (M.state store) }
-        ensures state { IfOk result (λ session. session.state ≡ started (M.state store)) }
-        ensures path { IfOk result (λ session. session.path ≡ path_of F.files paths) }
+        ensures state { IfOk result (λ session. session.state ≡ started (M.state store) (path_of F.Folder paths)) }
         ensures faults { IfOk result (λ session. session.faults ≡ counts_of F.folder_faults paths) }
         ensures going { IfOk result (λ session. session.ended ≡ false) }
         ensures memory { OnErr result (M.frugal ≡ false) }
     {
         match Console::start(store, paths) {
-            Ok(console) => Ok(Session { console }),
+            Ok(console) => Ok(Session {
+                console,
+                text: CommandText::new(),
+            }),
             Err(error) => Err(error),
         }
     }
@@ -62,15 +69,20 @@ impl<M: Store, F: Folder> Session<M, F> {
     /// The line is cut at its first zero byte. It and a newline are added to the buffer; where they don't fit,
     /// `overflow` is printed. The frame takes commands until the buffer is empty or `wait` was executed, at most 4096.
     /// After a fault the replies before one reply were put, and what the fault left of that one.
+    ///
+    /// A command that asks for a file is told where each mount up to the first that has it is; behind one that isn't,
+    /// nothing is told of the line. A line that asks for no file calls no folder.
     pub fn step<O: Sink>(&mut self, text: &[u8], out: &mut O) -> StepEnd
         requires going { self.old.ended ≡ false }
-        ensures told { IfSome self.old.path.mounts (λ mounts. Runs (line mounts self.old.state text.now) (told_end result) self.new.state (O.got out.old) (O.got out.new)) }
-        ensures path { self.new.path ≡ self.old.path }
+        ensures told { Runs (line text.now self.old.state) (told_end result) self.new.state (O.got out.old) (O.got out.new) }
+        ensures path { self.new.state.path ≡ self.old.state.path }
         ensures laid { Laid self.new.state.memory }
-        ensures causes { HasCauses M.frugal self.old.faults self.new.faults (O.sink_faults out.old) (O.sink_faults out.new) (told_end result) }
+        ensures causes { HasCauses M.frugal self.old.faults self.new.faults
+            (O.sink_faults out.old) (O.sink_faults out.new) (told_end result) }
+        ensures calls { NoneAsks (line text.now self.old.state) → self.new.calls ≡ self.old.calls }
         ensures ended { self.new.ended ≡ is_end result }
     {
-        let end = end_of(self.console.run_line(text, out));
+        let end = end_of(self.console.run_line(text, &mut self.text, out));
         self.console.ended = ends_run(end);
         end
     }
@@ -79,13 +91,15 @@ impl<M: Store, F: Folder> Session<M, F> {
     /// session must not have ended, and has ended then.
     pub fn finish<O: Sink>(&mut self, out: &mut O) -> StepEnd
         requires going { self.old.ended ≡ false }
-        ensures told { IfSome self.old.path.mounts (λ mounts. Runs (finish mounts self.old.state) (told_end result) self.new.state (O.got out.old) (O.got out.new)) }
-        ensures path { self.new.path ≡ self.old.path }
+        ensures told { Runs (finish self.old.state) (told_end result) self.new.state (O.got out.old) (O.got out.new) }
+        ensures path { self.new.state.path ≡ self.old.state.path }
         ensures laid { Laid self.new.state.memory }
-        ensures causes { HasCauses M.frugal self.old.faults self.new.faults (O.sink_faults out.old) (O.sink_faults out.new) (told_end result) }
+        ensures causes { HasCauses M.frugal self.old.faults self.new.faults
+            (O.sink_faults out.old) (O.sink_faults out.new) (told_end result) }
+        ensures calls { NoneAsks (finish self.old.state) → self.new.calls ≡ self.old.calls }
         ensures ended { self.new.ended ≡ true }
     {
-        let end = end_of(self.console.run_frame(true, out));
+        let end = end_of(self.console.run_frame(true, &mut self.text, out));
         self.console.ended = true;
         end
     }
@@ -93,7 +107,7 @@ impl<M: Store, F: Folder> Session<M, F> {
     /// Hands the folder of this number back, and drops the rest.
     pub fn take_folder(self, folder: u32) -> F
         requires { folder < length self.faults }
-        ensures told { slice_get self.path.told folder ≡ Some (F.files result) }
+        ensures told { slice_get self.state.path.told folder ≡ Some (F.files result) }
         ensures faults { slice_get self.faults folder ≡ Some (F.folder_faults result) }
     {
         self.console.take_folder(folder)

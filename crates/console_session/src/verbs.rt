@@ -1,7 +1,7 @@
 // The commands by their names.
-ghost use Rattle.std.specs.Prelude.{◌≡◌, map};
+ghost use Rattle.std.specs.Prelude.{◌≡◌};
 ghost use Rattle.std.specs.Str.{str_eq_ignore_ascii_case};
-ghost use Rattle.console_session.specs.Verbs.{named_verb, verb_among, verb_of};
+ghost use Rattle.console_session.specs.Verbs.{verb_of};
 
 /// A command.
 #[derive(Clone, Copy, Debug, PartialEq, Eq)]
@@ -19,42 +19,49 @@ pub enum Verb {
     Path,
 }
 
-const VERBS: [(&[u8], Verb); 11] = [
-    (b"file", Verb::File),
-    (b"echo", Verb::Echo),
-    (b"exec", Verb::Exec),
-    (b"wait", Verb::Wait),
-    (b"quit", Verb::Quit),
-    (b"reserve", Verb::Reserve),
-    (b"video", Verb::Video),
-    (b"level", Verb::Level),
-    (b"report", Verb::Report),
-    (b"alias", Verb::Alias),
-    (b"path", Verb::Path),
-];
-
 // Whether the two are the same but for the case of their letters.
 fn is_same(word: &[u8], name: &[u8]) -> bool
     ensures { result ≡ str_eq_ignore_ascii_case word.now name.now }
 {
-    word.eq_ignore_ascii_case(name)
-}
-
-// The first of these commands that a word names, in any case.
-fn find_among(commands: &[(&'static [u8], Verb)], word: &[u8]) -> Option<Verb>
-    ensures { result ≡ verb_among (map named_verb commands.now) word.now }
-{
-    for (name, verb) in commands {
-        if is_same(word, name) {
-            return Some(*verb);
-        }
-    }
-    None
+    word.len() == name.len() && word.eq_ignore_ascii_case(name)
 }
 
 /// The command that a word names, in any case.
 pub fn find_verb(word: &[u8]) -> Option<Verb>
     ensures { result ≡ verb_of word.now }
 {
-    find_among(&VERBS, word)
+    if is_same(word, b"file") {
+        return Some(Verb::File);
+    }
+    if is_same(word, b"echo") {
+        return Some(Verb::Echo);
+    }
+    if is_same(word, b"exec") {
+        return Some(Verb::Exec);
+    }
+    if is_same(word, b"wait") {
+        return Some(Verb::Wait);
+    }
+    if is_same(word, b"quit") {
+        return Some(Verb::Quit);
+    }
+    if is_same(word, b"reserve") {
+        return Some(Verb::Reserve);
+    }
+    if is_same(word, b"video") {
+        return Some(Verb::Video);
+    }
+    if is_same(word, b"level") {
+        return Some(Verb::Level);
+    }
+    if is_same(word, b"report") {
+        return Some(Verb::Report);
+    }
+    if is_same(word, b"alias") {
+        return Some(Verb::Alias);
+    }
+    if is_same(word, b"path") {
+        return Some(Verb::Path);
+    }
+    None
 }

@@ -5,10 +5,10 @@ use Rattle.std.specs.Option.{ok_or}
 use Rattle.std.proofs.lemmas.Grind.{common_steps}
 use Rattle.outside_io.specs.Files.{File}
 use Rattle.search_paths.specs.declared.answers.FileRef.{FileRef}
-use Rattle.search_paths.specs.Answers.{ref_of, first_of, IsFilePart}
-use Rattle.search_paths.specs.Mounts.{FileAt, Mount, file_in, find_in}
-use Rattle.search_paths.specs.Path.{PathState, mounts_of, mount_at}
-use Rattle.search_paths.proofs.FindLaws.{IsCut, mount_at-told, find_in-found, found-cut, bytes-inside, bytes-outside}
+use Rattle.search_paths.specs.Answers.{ref_of, placed, IsFirstOf, IsFilePart}
+use Rattle.search_paths.specs.Mounts.{FileAt, Mount, file_in, find_told}
+use Rattle.search_paths.specs.Path.{PathState, told_mounts, mount_at}
+use Rattle.search_paths.proofs.FindLaws.{IsCut, mount_at-found, find_told-found, found-cut, bytes-inside, bytes-outside}
 use Rattle.file_load.specs.Loads.{Beyond, sought}
 use Rattle.file_load.specs.Files.{Finds}
 
@@ -21,38 +21,34 @@ record IsAt (name : List ℕ) (file : FileRef) (mount : Option Mount) (given : O
   cut : IsCut at
 
 module _ {F : Type 0} (files : F → Option (List File)) (path : PathState F) (name : List ℕ) where
-  stands : (file : FileRef) (all : List Mount) → mounts_of files path ≡ Some all → first_of name all ≡ Some file → IsAt name file (mount_at files file.mount path) (find_in name all)
-  stands file all told first = by (find_in name all) refl first
-    where
-      here : (found : ℕ × FileAt) → find_in name all ≡ Some found → IsAt name (ref_of found.0 found.1) (mount_at files found.0 path) (Some found)
-      here found is =
-          let known = find_in-found name all found is in
-          let told_there : mount_at files found.0 path ≡ Some known.mount = mount_at-told files path all found.0 told ∙ known.at in
-          record {
-            at = found.1;
-            found = refl;
-            is = refl;
-            has = subst (λ m. IsSomeAnd m (λ (m : Mount). file_in name m.files ≡ Some found.1)) (sym told_there) known.has;
-            cut = found-cut files path all name found.0 found.1 told known;
-          }
-
-      by : (found : Option (ℕ × FileAt)) → find_in name all ≡ found → option_map (λ f. ref_of f.0 f.1) found ≡ Some file → IsAt name file (mount_at files file.mount path) found
-      by None is known = absurd (cc)
-      by (Some found) is known = let same : ref_of found.0 found.1 ≡ file = cc in subst (λ (f : FileRef). IsAt name f (mount_at files f.mount path) (Some found)) same (here found is)
+  stands : (file : FileRef) (found : Option (ℕ × FileAt)) → find_told name (told_mounts files path) ≡ Some found → option_map placed found ≡ Some file → IsAt name file (mount_at files file.mount path) found
+  stands file None told first = absurd (cc)
+  stands file (Some found) told first =
+      let known = find_told-found name (told_mounts files path) found told in
+      let told_there : mount_at files found.0 path ≡ Some known.mount = mount_at-found files path name found.0 found.1 known in
+      let here : IsAt name (placed found) (mount_at files found.0 path) (Some found) = record {
+        at = found.1;
+        found = refl;
+        is = refl;
+        has = subst (λ m. IsSomeAnd m (λ (m : Mount). file_in name m.files ≡ Some found.1)) (sym told_there) known.has;
+        cut = found-cut files path name found.0 found.1 known;
+      } in
+      let same : placed found ≡ file = cc in
+      subst (λ (f : FileRef). IsAt name f (mount_at files f.mount path) (Some found)) same here
 
   -- a fact of the first file
-  by_first : (file : FileRef) (P : Option (ℕ × FileAt) → Type 0) → IfSome (mounts_of files path) (λ all. Some file ≡ first_of name all)
-      → ((found : Option (ℕ × FileAt)) → IsAt name file (mount_at files file.mount path) found → P found) → IfSome (mounts_of files path) (λ all. P (find_in name all))
-  by_first file P first each = by (mounts_of files path) refl first
+  by_first : (file : FileRef) (P : Option (ℕ × FileAt) → Type 0) → IsFirstOf name (told_mounts files path) (Some file)
+      → ((found : Option (ℕ × FileAt)) → IsAt name file (mount_at files file.mount path) found → P found) → IfSome (find_told name (told_mounts files path)) P
+  by_first file P first each = by (find_told name (told_mounts files path)) refl first
     where
-      by : (given : Option (List Mount)) → mounts_of files path ≡ given → IfSome given (λ all. Some file ≡ first_of name all) → IfSome given (λ all. P (find_in name all))
+      by : (given : Option (Option (ℕ × FileAt))) → find_told name (told_mounts files path) ≡ given → IfSome given (λ found. Some file ≡ option_map placed found) → IfSome given P
       by None is known = tt
-      by (Some all) is known = each (find_in name all) (stands file all is (sym known))
+      by (Some found) is known = each found (stands file found is (sym known))
 
   module _ (file : FileRef) where
     -- it ends past what it lies in
-    pub past : (end : ℕ) → end ≡ file.offset + file.length → file.whole < end → IfSome (mounts_of files path) (λ all. Some file ≡ first_of name all)
-        → IfSome (mounts_of files path) (λ all. sought (find_in name all) ≡ Err (Beyond end file.whole))
+    pub past : (end : ℕ) → end ≡ file.offset + file.length → file.whole < end → IsFirstOf name (told_mounts files path) (Some file)
+        → IfSome (find_told name (told_mounts files path)) (λ found. sought found ≡ Err (Beyond end file.whole))
     past end is beyond first = by_first file (λ found. sought found ≡ Err (Beyond end file.whole)) first here
       where
         here : (found : Option (ℕ × FileAt)) → IsAt name file (mount_at files file.mount path) found → sought found ≡ Err (Beyond end file.whole)
@@ -75,7 +71,7 @@ module _ {F : Type 0} (files : F → Option (List File)) (path : PathState F) (n
     sought_is found stands bytes is = ap sought stands.found ∙ ap (λ given. ok_or given (Beyond (stands.at.offset + stands.at.size) stands.at.whole)) is
 
     -- it ends inside
-    pub within : file.offset + file.length ≤ file.whole → IfSome (mounts_of files path) (λ all. Some file ≡ first_of name all) → IfSome (mounts_of files path) (λ all. Finds (sought (find_in name all)) (Ok file))
+    pub within : file.offset + file.length ≤ file.whole → IsFirstOf name (told_mounts files path) (Some file) → IfSome (find_told name (told_mounts files path)) (λ found. Finds (sought found) (Ok file))
     within inside first = by_first file (λ found. Finds (sought found) (Ok file)) first
         (λ found. λ stands. let has = its_bytes inside found stands in (has.0, sought_is found stands has.0 has.1, has.2))
 
@@ -89,8 +85,8 @@ module _ {F : Type 0} (files : F → Option (List File)) (path : PathState F) (n
 
     -- what was read of the first file of the name, up to its end
     pub read_of : (part rest : List ℕ) → file.offset + file.length ≤ file.whole → length part ≡ file.length → IsFilePart name 0 part (mount_at files file.mount path)
-        → IfSome (mounts_of files path) (λ all. first_of name all ≡ Some file → IfOk (sought (find_in name all)) (λ bytes. part ++ rest ≡ bytes ++ rest))
-    read_of part rest inside sized is = by (mounts_of files path) refl
+        → IfSome (find_told name (told_mounts files path)) (λ found. option_map placed found ≡ Some file → IfOk (sought found) (λ bytes. part ++ rest ≡ bytes ++ rest))
+    read_of part rest inside sized is = by (find_told name (told_mounts files path)) refl
       where
         here : (found : Option (ℕ × FileAt)) → IsAt name file (mount_at files file.mount path) found → IfOk (sought found) (λ bytes. part ++ rest ≡ bytes ++ rest)
         here found stands =
@@ -98,6 +94,6 @@ module _ {F : Type 0} (files : F → Option (List File)) (path : PathState F) (n
             let piece : part ≡ slice_range has.0 0 (0 + length part) = rw has.1 at (part_of stands.at part (mount_at files file.mount path) stands.has is) in
             rw (sought_is found stands has.0 has.1) (ap (λ bytes. bytes ++ rest) (all_of has.0 part (sized ∙ has.2) piece))
 
-        by : (given : Option (List Mount)) → mounts_of files path ≡ given → IfSome given (λ all. first_of name all ≡ Some file → IfOk (sought (find_in name all)) (λ bytes. part ++ rest ≡ bytes ++ rest))
+        by : (given : Option (Option (ℕ × FileAt))) → find_told name (told_mounts files path) ≡ given → IfSome given (λ found. option_map placed found ≡ Some file → IfOk (sought found) (λ bytes. part ++ rest ≡ bytes ++ rest))
         by None none = tt
-        by (Some all) some = λ first. here (find_in name all) (stands file all some first)
+        by (Some found) some = λ first. here found (stands file found some first)

@@ -1,5 +1,5 @@
 -- Loading into a low block, where the folders of the path tell their files.
-use Rattle.std.proofs.Common.{◌≡◌, ℕ, ◌+◌, List, ◌++◌, Bool, length, drop, Option, Some, None, IfSome, IfOk, Result, Ok, Err, refl, sym, ap, ◌∙◌}
+use Rattle.std.proofs.Common.{◌≡◌, ℕ, ◌+◌, List, ◌++◌, Bool, length, drop, option_map, Option, Some, None, IfSome, IfOk, Result, Ok, Err, refl, sym, ap, ◌∙◌}
 use Rattle.base_fields.specs.Names.{base_of}
 use Rattle.mem_model.specs.Answer.{Answers, Gives}
 use Rattle.mem_model.specs.Event.{Shortage}
@@ -13,10 +13,10 @@ use Rattle.mem_model.specs.declared.answers.RoomError.{RoomError}
 use Rattle.mem_model.proofs.Laws.{low_bytes-new, low_bytes-written}
 use Rattle.mem_model.proofs.Untouched.{zone-low_alloc, zone-with_low_bytes}
 use Rattle.search_paths.specs.declared.answers.FileRef.{FileRef}
-use Rattle.search_paths.specs.Answers.{first_of}
-use Rattle.search_paths.specs.Mounts.{Mount, find_in}
+use Rattle.search_paths.specs.Answers.{placed}
+use Rattle.search_paths.specs.Mounts.{FileAt}
 use Rattle.file_load.specs.declared.errors.LoadError.{LoadError}
-use Rattle.file_load.specs.Loads.{Loading, low_block, load_low, padded, sought, Loads, IsLoaded}
+use Rattle.file_load.specs.Loads.{Loading, low_block, low_load, padded, sought, Loads, IsLoaded}
 use Rattle.file_load.specs.Leaves.{IsLowMade, LeavesLow}
 use Rattle.file_load.specs.Files.{Finds, IsSought, IsUnreadable}
 use Rattle.file_load.specs.Refusals.{refused}
@@ -43,24 +43,24 @@ module _ (m : Memory) (name : List ℕ) where
   pub leaves_early : (e : LoadError) → IsSought e → LeavesLow m name (Err e) m
   leaves_early e is = left_early (low_block m name) with_low_bytes (IsLowMade m name m) m m e is
 
-  abbrev loaded_in : List Mount → Loading
-  loaded_in all = load_low all m name
+  abbrev loaded_in : Option (ℕ × FileAt) → Loading
+  loaded_in sight = low_load m name sight
 
-  pub early_low : (told : Option (List Mount)) (e : LoadError) → IsSought e → IfSome told (λ all. Finds (sought (find_in name all)) (Err e)) → IfSome told (λ all. Loads (loaded_in all) (Err e) m)
-  unfolding load_low
+  pub early_low : (told : Option (Option (ℕ × FileAt))) (e : LoadError) → IsSought e → IfSome told (λ sight. Finds (sought sight) (Err e)) → IfSome (option_map loaded_in told) (λ given. Loads given (Err e) m)
+  unfolding low_load
   early_low None e is found = tt
-  early_low (Some all) e is found = early (low_block m name) with_low_bytes m (sought (find_in name all)) (λ loaded. IsLoaded (loaded_in all) loaded m) e is found
+  early_low (Some sight) e is found = early (low_block m name) with_low_bytes m (sought sight) (λ loaded. IsLoaded (loaded_in sight) loaded m) e is found
 
   module _ (file : FileRef) where
     -- no block is given
     pub leaves_refused : (e : RoomError) (frugal : Bool) (new : Memory) → Gives (low_alloc m (file.length + 1) (base_of name)) frugal m (room_answer (Err e)) new → LeavesLow m name (Err (refused e)) new
     leaves_refused e frugal new gives = left_refused (low_block m name) with_low_bytes (IsLowMade m name new) m m new file.length e frugal gives
 
-    pub refused_low : (told : Option (List Mount)) (e : RoomError) (frugal : Bool) (new : Memory) → IfSome told (λ all. Finds (sought (find_in name all)) (Ok file))
-        → Gives (low_alloc m (file.length + 1) (base_of name)) frugal m (room_answer (Err e)) new → IfSome told (λ all. Loads (loaded_in all) (Err (refused e)) new)
-    unfolding load_low
+    pub refused_low : (told : Option (Option (ℕ × FileAt))) (e : RoomError) (frugal : Bool) (new : Memory) → IfSome told (λ sight. Finds (sought sight) (Ok file))
+        → Gives (low_alloc m (file.length + 1) (base_of name)) frugal m (room_answer (Err e)) new → IfSome (option_map loaded_in told) (λ given. Loads given (Err (refused e)) new)
+    unfolding low_load
     refused_low None e frugal new found gives = tt
-    refused_low (Some all) e frugal new found gives = refusal (low_block m name) with_low_bytes m (sought (find_in name all)) file found (λ loaded. IsLoaded (loaded_in all) loaded new) e frugal m new gives
+    refused_low (Some sight) e frugal new found gives = refusal (low_block m name) with_low_bytes m (sought sight) file found (λ loaded. IsLoaded (loaded_in sight) loaded new) e frugal m new gives
 
     -- a block is given, and written to
     module _ (place : Place) (mid new : Memory) (old filled : List ℕ) (gives : Answers (low_alloc m (file.length + 1) (base_of name)) (Ok place.0) mid)
@@ -72,27 +72,27 @@ module _ (m : Memory) (name : List ℕ) where
       pub leaves_unread : (e : LoadError) → IsUnreadable e → LeavesLow m name (Err e) new
       leaves_unread e is = left_unread (low_block m name) with_low_bytes (IsLowMade m name new) m m new file.length place.0 e is leaves_made
 
-      pub unread_low : (told : Option (List Mount)) (e : LoadError) → IsUnreadable e → IfSome told (λ all. Finds (sought (find_in name all)) (Ok file)) → IfSome told (λ all. Loads (loaded_in all) (Err e) new)
-      unfolding load_low
+      pub unread_low : (told : Option (Option (ℕ × FileAt))) (e : LoadError) → IsUnreadable e → IfSome told (λ sight. Finds (sought sight) (Ok file)) → IfSome (option_map loaded_in told) (λ given. Loads given (Err e) new)
+      unfolding low_load
       unread_low None e is found = tt
-      unread_low (Some all) e is found =
-          unread (low_block m name) with_low_bytes m (sought (find_in name all)) file found place.0 mid gives (λ loaded. IsLoaded (loaded_in all) loaded new) e is old filled new blank sized wrote
+      unread_low (Some sight) e is found =
+          unread (low_block m name) with_low_bytes m (sought sight) file found place.0 mid gives (λ loaded. IsLoaded (loaded_in sight) loaded new) e is old filled new blank sized wrote
           (with_low_bytes-twice mid place.0 old (padded found.0) filled shows sized)
 
       -- the file's bytes are in it
-      abbrev Fills : List Mount → Type 0
-      Fills all = first_of name all ≡ Some file → IfOk (sought (find_in name all)) (λ bytes. filled ≡ bytes ++ drop file.length old)
+      abbrev Fills : Option (ℕ × FileAt) → Type 0
+      Fills sight = option_map placed sight ≡ Some file → IfOk (sought sight) (λ bytes. filled ≡ bytes ++ drop file.length old)
 
-      pub loaded_low : (told later : Option (List Mount)) → later ≡ told → IfSome told (λ all. Finds (sought (find_in name all)) (Ok file)) → IfSome told (λ all. first_of name all ≡ Some file)
-          → IfSome later Fills → IfSome told (λ all. Loads (loaded_in all) (Ok (place, file.length)) new)
-      unfolding load_low
+      pub loaded_low : (told later : Option (Option (ℕ × FileAt))) → later ≡ told → IfSome told (λ sight. Finds (sought sight) (Ok file)) → IfSome told (λ sight. option_map placed sight ≡ Some file)
+          → IfSome later Fills → IfSome (option_map loaded_in told) (λ given. Loads given (Ok (place, file.length)) new)
+      unfolding low_load
       loaded_low None later same found first fills = tt
-      loaded_low (Some all) later same found first fills = here (rw same at fills)
+      loaded_low (Some sight) later same found first fills = here (rw same at fills)
         where
-          here : Fills all → IsLoaded (loaded_in all) (place, file.length) new
+          here : Fills sight → IsLoaded (loaded_in sight) (place, file.length) new
           here fill =
-              let is = what_is (low_block m name) with_low_bytes m (sought (find_in name all)) file found place.0 mid gives in
-              let all_of : filled ≡ padded found.0 = whole (low_block m name) with_low_bytes m (sought (find_in name all)) file found place.0 mid gives old filled blank (fill first) in
+              let is = what_is (low_block m name) with_low_bytes m (sought sight) file found place.0 mid gives in
+              let all_of : filled ≡ padded found.0 = whole (low_block m name) with_low_bytes m (sought sight) file found place.0 mid gives old filled blank (fill first) in
               record {
                 bytes = found.0;
                 load = ap (λ (l : Loading). l.load) is;

@@ -1,5 +1,5 @@
 -- Loading into the temporary block, where the folders of the path tell their files.
-use Rattle.std.proofs.Common.{◌≡◌, ℕ, ◌+◌, List, ◌++◌, Bool, length, drop, Option, Some, None, IfSome, IfOk, Result, Ok, Err, sym, ap, ◌∙◌}
+use Rattle.std.proofs.Common.{◌≡◌, ℕ, ◌+◌, List, ◌++◌, Bool, length, drop, option_map, Option, Some, None, IfSome, IfOk, Result, Ok, Err, sym, ap, ◌∙◌}
 use Rattle.mem_model.specs.Answer.{Answers, Gives}
 use Rattle.mem_model.specs.Event.{Shortage}
 use Rattle.mem_model.specs.Memory.{Memory}
@@ -10,10 +10,10 @@ use Rattle.mem_model.specs.declared.answers.RoomError.{RoomError}
 use Rattle.mem_model.proofs.Laws.{temp_bytes-new, temp_bytes-written}
 use Rattle.mem_model.proofs.Untouched.{zone-temp_alloc, zone-with_temp_bytes, zone-without_temp}
 use Rattle.search_paths.specs.declared.answers.FileRef.{FileRef}
-use Rattle.search_paths.specs.Answers.{first_of}
-use Rattle.search_paths.specs.Mounts.{Mount, find_in}
+use Rattle.search_paths.specs.Answers.{placed}
+use Rattle.search_paths.specs.Mounts.{FileAt}
 use Rattle.file_load.specs.declared.errors.LoadError.{LoadError}
-use Rattle.file_load.specs.Loads.{Loading, temp_block, with_temp, load_temp, padded, sought, LoadsTemp, IsTempLoaded}
+use Rattle.file_load.specs.Loads.{Loading, temp_block, with_temp, temp_load, padded, sought, LoadsTemp, IsTempLoaded}
 use Rattle.file_load.specs.Leaves.{IsMade, IsTempMade, LeavesTemp}
 use Rattle.file_load.specs.Files.{Finds, IsSought, IsUnreadable}
 use Rattle.file_load.specs.Refusals.{refused}
@@ -35,29 +35,29 @@ pub zone_written : (m mid new : Memory) (size : ℕ) (bytes : List ℕ) (frugal 
 zone_written m mid new size bytes frugal reply gives wrote = ap (λ (n : Memory). n.zone) wrote ∙ zone-with_temp_bytes mid bytes ∙ zone_given m mid size frugal reply gives
 
 module _ (m : Memory) (name : List ℕ) where
-  abbrev loaded_in : List Mount → Loading
-  loaded_in all = load_temp all m name
+  abbrev loaded_in : Option (ℕ × FileAt) → Loading
+  loaded_in sight = temp_load m name sight
 
   -- nothing is found to load
   pub leaves_early : (e : LoadError) → IsSought e → LeavesTemp m (Err e) m
   leaves_early e is = left_early (temp_block m) with_temp (IsTempMade m m) m (without_temp m) e is
 
-  pub early_temp : (told : Option (List Mount)) (e : LoadError) → IsSought e → IfSome told (λ all. Finds (sought (find_in name all)) (Err e)) → IfSome told (λ all. LoadsTemp (loaded_in all) (Err e) m)
-  unfolding load_temp
+  pub early_temp : (told : Option (Option (ℕ × FileAt))) (e : LoadError) → IsSought e → IfSome told (λ sight. Finds (sought sight) (Err e)) → IfSome (option_map loaded_in told) (λ given. LoadsTemp given (Err e) m)
+  unfolding temp_load
   early_temp None e is found = tt
-  early_temp (Some all) e is found = early (temp_block m) with_temp m (sought (find_in name all)) (λ loaded. IsTempLoaded (loaded_in all) loaded m) e is found
+  early_temp (Some sight) e is found = early (temp_block m) with_temp m (sought sight) (λ loaded. IsTempLoaded (loaded_in sight) loaded m) e is found
 
   module _ (file : FileRef) where
     -- no block is given
     pub leaves_refused : (e : RoomError) (frugal : Bool) (new : Memory) → Gives (temp_alloc m (file.length + 1)) frugal (without_temp m) (room_answer (Err e)) new → LeavesTemp m (Err (refused e)) new
     leaves_refused e frugal new gives = left_refused (temp_block m) with_temp (IsTempMade m new) m (without_temp m) new file.length e frugal gives
 
-    pub refused_temp : (told : Option (List Mount)) (e : RoomError) (frugal : Bool) (new : Memory) → IfSome told (λ all. Finds (sought (find_in name all)) (Ok file))
-        → Gives (temp_alloc m (file.length + 1)) frugal (without_temp m) (room_answer (Err e)) new → IfSome told (λ all. LoadsTemp (loaded_in all) (Err (refused e)) new)
-    unfolding load_temp
+    pub refused_temp : (told : Option (Option (ℕ × FileAt))) (e : RoomError) (frugal : Bool) (new : Memory) → IfSome told (λ sight. Finds (sought sight) (Ok file))
+        → Gives (temp_alloc m (file.length + 1)) frugal (without_temp m) (room_answer (Err e)) new → IfSome (option_map loaded_in told) (λ given. LoadsTemp given (Err (refused e)) new)
+    unfolding temp_load
     refused_temp None e frugal new found gives = tt
-    refused_temp (Some all) e frugal new found gives =
-        refusal (temp_block m) with_temp m (sought (find_in name all)) file found (λ loaded. IsTempLoaded (loaded_in all) loaded new) e frugal (without_temp m) new gives
+    refused_temp (Some sight) e frugal new found gives =
+        refusal (temp_block m) with_temp m (sought sight) file found (λ loaded. IsTempLoaded (loaded_in sight) loaded new) e frugal (without_temp m) new gives
 
     -- a block is given, and written to
     module _ (place : ℕ) (mid new : Memory) (old filled : List ℕ) (gives : Answers (temp_alloc m (file.length + 1)) (Ok place) mid)
@@ -72,27 +72,27 @@ module _ (m : Memory) (name : List ℕ) where
       pub leaves_unread : (e : LoadError) → IsUnreadable e → LeavesTemp m (Err e) new
       leaves_unread e is = left_unread (temp_block m) with_temp (IsTempMade m new) m (without_temp m) new file.length place e is stands
 
-      pub unread_temp : (told : Option (List Mount)) (e : LoadError) → IsUnreadable e → IfSome told (λ all. Finds (sought (find_in name all)) (Ok file)) → IfSome told (λ all. LoadsTemp (loaded_in all) (Err e) new)
-      unfolding load_temp
+      pub unread_temp : (told : Option (Option (ℕ × FileAt))) (e : LoadError) → IsUnreadable e → IfSome told (λ sight. Finds (sought sight) (Ok file)) → IfSome (option_map loaded_in told) (λ given. LoadsTemp given (Err e) new)
+      unfolding temp_load
       unread_temp None e is found = tt
-      unread_temp (Some all) e is found =
-          unread (temp_block m) with_temp m (sought (find_in name all)) file found place mid gives (λ loaded. IsTempLoaded (loaded_in all) loaded new) e is old filled new blank sized wrote
+      unread_temp (Some sight) e is found =
+          unread (temp_block m) with_temp m (sought sight) file found place mid gives (λ loaded. IsTempLoaded (loaded_in sight) loaded new) e is old filled new blank sized wrote
           (with_temp_bytes-twice mid old (padded found.0) filled shows sized)
 
       -- the file's bytes are in it
-      abbrev Fills : List Mount → Type 0
-      Fills all = first_of name all ≡ Some file → IfOk (sought (find_in name all)) (λ bytes. filled ≡ bytes ++ drop file.length old)
+      abbrev Fills : Option (ℕ × FileAt) → Type 0
+      Fills sight = option_map placed sight ≡ Some file → IfOk (sought sight) (λ bytes. filled ≡ bytes ++ drop file.length old)
 
-      pub loaded_temp : (told later : Option (List Mount)) → later ≡ told → IfSome told (λ all. Finds (sought (find_in name all)) (Ok file)) → IfSome told (λ all. first_of name all ≡ Some file)
-          → IfSome later Fills → IfSome told (λ all. LoadsTemp (loaded_in all) (Ok file.length) new)
-      unfolding load_temp
+      pub loaded_temp : (told later : Option (Option (ℕ × FileAt))) → later ≡ told → IfSome told (λ sight. Finds (sought sight) (Ok file)) → IfSome told (λ sight. option_map placed sight ≡ Some file)
+          → IfSome later Fills → IfSome (option_map loaded_in told) (λ given. LoadsTemp given (Ok file.length) new)
+      unfolding temp_load
       loaded_temp None later same found first fills = tt
-      loaded_temp (Some all) later same found first fills = here (rw same at fills)
+      loaded_temp (Some sight) later same found first fills = here (rw same at fills)
         where
-          here : Fills all → IsTempLoaded (loaded_in all) file.length new
+          here : Fills sight → IsTempLoaded (loaded_in sight) file.length new
           here fill =
-              let is = what_is (temp_block m) with_temp m (sought (find_in name all)) file found place mid gives in
-              let all_of : filled ≡ padded found.0 = whole (temp_block m) with_temp m (sought (find_in name all)) file found place mid gives old filled blank (fill first) in
+              let is = what_is (temp_block m) with_temp m (sought sight) file found place mid gives in
+              let all_of : filled ≡ padded found.0 = whole (temp_block m) with_temp m (sought sight) file found place mid gives old filled blank (fill first) in
               record {
                 place = place;
                 bytes = found.0;

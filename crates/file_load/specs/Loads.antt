@@ -1,5 +1,5 @@
 -- Loading the first file of a name into a new block.
-use Rattle.std.specs.Prelude.{◌≡◌, ℕ, ◌+◌, ◌-◌, ◌<◌, List, ◌++◌, length, replicate, Option, Some, None, Result, Ok, Err}
+use Rattle.std.specs.Prelude.{◌≡◌, ℕ, ◌+◌, ◌-◌, ◌<◌, List, ◌++◌, length, replicate, Option, Some, None, option_map, Result, Ok, Err}
 use Rattle.std.specs.Option.{ok_or}
 use Rattle.base_fields.specs.Names.{base_of}
 use Rattle.mem_model.specs.Answer.{Answered}
@@ -10,7 +10,7 @@ use Rattle.mem_model.specs.Hunk.{low_bytes, with_low_bytes, temp_bytes, with_tem
 use Rattle.mem_model.specs.Operations.{low_alloc, temp_alloc}
 use Rattle.mem_model.specs.declared.answers.Place.{Place}
 use Rattle.search_paths.specs.Counts.{RoseAt}
-use Rattle.search_paths.specs.Mounts.{FileAt, Mount, find_in}
+use Rattle.search_paths.specs.Mounts.{FileAt, Mount, find_told}
 use Rattle.file_load.specs.declared.errors.LoadError.{LoadError}
 use Rattle.file_load.specs.declared.errors.LoadError.TheVariants as error
 use Rattle.file_load.specs.declared.errors.Stage.TheVariants as stage
@@ -59,13 +59,21 @@ abbrev pub loading : (ℕ → Answered (Result ℕ Shortage)) → (Memory → �
 loading block written m (Ok bytes) = placed written bytes (block (length bytes)).after (block (length bytes)).answer
 loading block written m (Err refusal) = record { load = refusal; after = m }
 
--- the first file of this name in a new low block
-unfoldable pub load_low : List Mount → Memory → List ℕ → Loading
-load_low mounts m name = loading (low_block m name) with_low_bytes m (sought (find_in name mounts))
+-- a file that was found, or none, in a new low block
+unfoldable pub low_load : Memory → List ℕ → Option (ℕ × FileAt) → Loading
+low_load m name found = loading (low_block m name) with_low_bytes m (sought found)
 
 -- the same in a new temporary block
-unfoldable pub load_temp : List Mount → Memory → List ℕ → Loading
-load_temp mounts m name = loading (temp_block m) with_temp m (sought (find_in name mounts))
+unfoldable pub temp_load : Memory → List ℕ → Option (ℕ × FileAt) → Loading
+temp_load m name found = loading (temp_block m) with_temp m (sought found)
+
+-- the first file of this name in a new low block, where the mounts tell it
+abbrev pub load_low : List (Option Mount) → Memory → List ℕ → Option Loading
+load_low mounts m name = option_map (low_load m name) (find_told name mounts)
+
+-- the same in a new temporary block
+abbrev pub load_temp : List (Option Mount) → Memory → List ℕ → Option Loading
+load_temp mounts m name = option_map (temp_load m name) (find_told name mounts)
 
 -- The file is in the low block of the place that was answered, with its length.
 pub record IsLoaded (given : Loading) (loaded : Place × ℕ) (new : Memory) : Type 0 where

@@ -1,9 +1,9 @@
 // Finding the file of a load, and reading it.
-ghost use Rattle.std.specs.Prelude.{◌≡◌, ◌+◌, ◌<◌, ◌≤◌, ◌^◌, ◌++◌, Some, drop, length, IfErr, IfOk, IfSome, OnOk};
-ghost use Rattle.search_paths.specs.Answers.{first_of, HasFile, IsFileRef};
+ghost use Rattle.std.specs.Prelude.{◌≡◌, ◌+◌, ◌<◌, ◌≤◌, ◌^◌, ◌++◌, Some, drop, length, option_map, IfErr, IfOk, IfSome, OnOk};
+ghost use Rattle.search_paths.specs.Answers.{placed, HasFile, IsFileRef};
 ghost use Rattle.search_paths.specs.Counts.{NoneFalls};
-ghost use Rattle.search_paths.specs.Mounts.{find_in};
-ghost use Rattle.search_paths.specs.Path.{rows_of, mounts_of, mount_at, counts_of, SamePath};
+ghost use Rattle.search_paths.specs.Mounts.{find_told};
+ghost use Rattle.search_paths.specs.Path.{rows_of, told_mounts, mount_at, counts_of, SamePath};
 ghost use Rattle.file_load.specs.Loads.{sought, IsLoadFault};
 ghost use Rattle.file_load.specs.Files.{Finds, IsSought, IsUnreadable};
 
@@ -17,10 +17,9 @@ pub(crate) fn find_whole<F: Folder>(
     paths: &mut Paths<F>,
     name: &GameName,
 ) -> Result<FileRef, LoadError>
-    ensures told { IfSome (mounts_of F.files paths.old) (λ mounts.
-        Finds (sought (find_in name.now mounts)) result) }
-    ensures first { IfOk result (λ file. IfSome (mounts_of F.files paths.old) (λ mounts.
-        first_of name.now mounts ≡ Some file)) }
+    ensures told { IfSome (find_told name.now (told_mounts F.files paths.old)) (λ found. Finds (sought found) result) }
+    ensures first { IfOk result (λ file. IfSome (find_told name.now (told_mounts F.files paths.old)) (λ found.
+        option_map placed found ≡ Some file)) }
     ensures there { IfOk result (λ file. HasFile name.now file (mount_at F.files file.mount paths.old)) }
     ensures sized { IfOk result (IsFileRef (length (rows_of paths.old))) }
     ensures inside { IfOk result (λ file. file.offset + file.length ≤ file.whole) }
@@ -61,8 +60,9 @@ pub(crate) fn read_whole<F: Folder>(
     requires short { file.now.length < 2 ^ 62 }
     requires inside { file.now.offset + file.now.length ≤ file.now.whole }
     requires fits { file.now.length ≤ length into.old }
-    ensures filled { OnOk result (IfSome (mounts_of F.files paths.old) (λ mounts. first_of name.now mounts ≡ Some file.now
-        → IfOk (sought (find_in name.now mounts)) (λ bytes. into.new ≡ bytes ++ drop file.now.length into.old))) }
+    ensures filled { OnOk result (IfSome (find_told name.now (told_mounts F.files paths.old)) (λ found.
+        option_map placed found ≡ Some file.now
+        → IfOk (sought found) (λ bytes. into.new ≡ bytes ++ drop file.now.length into.old))) }
     ensures rest { drop file.now.length into.new ≡ drop file.now.length into.old }
     ensures late { IfErr result IsUnreadable }
     ensures same { SamePath F.files paths.old paths.new }

@@ -3,7 +3,7 @@ ghost use Rattle.std.specs.Prelude.{◌≡◌, ◌≤◌, length, slice_get, Som
 ghost use Rattle.mem_model.specs.Laid.{Laid};
 ghost use Rattle.mem_model.specs.Hunk.{temp_bytes, without_temp};
 ghost use Rattle.search_paths.specs.Counts.{NoneFalls};
-ghost use Rattle.search_paths.specs.Path.{mounts_of, counts_of, SamePath};
+ghost use Rattle.search_paths.specs.Path.{told_mounts, counts_of, SamePath};
 ghost use Rattle.file_load.specs.Loads.{load_temp, LoadsTemp, IsLoadFault};
 ghost use Rattle.file_load.specs.Leaves.{LeavesTemp, IsEarly};
 
@@ -24,9 +24,9 @@ pub fn load_temp<M: Store, F: Folder>(
     paths: &mut Paths<F>,
     name: &GameName,
 ) -> Result<u64, LoadError>
-    // Where the folders tell their files: what is loaded, and the first refusal.
-    ensures told { IfSome (mounts_of F.files paths.old) (λ mounts.
-        LoadsTemp (load_temp mounts (M.state store.old) name.now) result (M.state store.new)) }
+    // Where the mounts tell the file, or that there is none: what is loaded, and the first refusal.
+    ensures told { IfSome (load_temp (told_mounts F.files paths.old) (M.state store.old) name.now) (λ given.
+        LoadsTemp given result (M.state store.new)) }
 
     // Whatever they tell: the store, and the block.
     ensures leaves { LeavesTemp (M.state store.old) result (M.state store.new) }

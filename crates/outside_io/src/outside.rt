@@ -87,4 +87,10 @@ pub trait Sink {
         ensures added { OnOk result (Adds piece.now (got self.old) (got self.new)) }
         ensures part { OnErr result (AddsFront piece.now (got self.old) (got self.new)) }
         ensures cause { HasCause (sink_faults self.old) (sink_faults self.new) result };
+
+    /// Hands on what the sink may hold back of what was put. Where that fails the fault is counted, and each put from then on
+    /// fails.
+    fn flush(&mut self)
+        ensures same { got self.new ≡ got self.old }
+        ensures faults { sink_faults self.old ≤ sink_faults self.new };
 }

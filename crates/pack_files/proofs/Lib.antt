@@ -2,3 +2,4 @@ mod Examples
 pub mod Headers
 pub mod Packing
 pub mod Tables
+pub mod Filtering

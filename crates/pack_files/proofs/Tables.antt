@@ -1,24 +1,19 @@
 -- The first row of each name, as a list that grows, and as a map.
-use Rattle.std.proofs.Common.{◌≡◌, ℕ, ◌+◌, ◌<◌, Bool, true, false, not, cond, List, [], ◌∷◌, ◌++◌, length, take, get_or, map, filter, Option, Some, None, nat_eq, refl, sym, ap, subst, ◌∙◌}
-use Rattle.std.specs.Prelude.{is_some, bytes_eq}
+use Rattle.std.proofs.Common.{◌≡◌, ℕ, ◌+◌, ◌<◌, Bool, true, false, not, cond, List, [], ◌∷◌, ◌++◌, length, take, get_or, map, filter, Option, Some, None, nat_eq, refl, sym, ap, ◌∙◌}
+use Rattle.std.specs.Prelude.{is_some, unwrap_or, bytes_eq}
 use Rattle.std.specs.Cmp.Lexicographic.{pointwise}
 use Rattle.std.specs.Map.{lookup}
-use Rattle.std.specs.declared.vec.Vec.{Vec}
 use Rattle.indexmap.specs.IndexMap.{IndexMap, insert_entry}
 use Rattle.indexmap.proofs.CallerLemmas.{insert_entry-new}
 use Rattle.std.proofs.lemmas.List.{append-nil, map-append, map_more}
 use Rattle.std.proofs.lemmas.List.Elements.{filter-append}
 use Rattle.std.proofs.lemmas.Slice.Eq.{bytes_eq-Decides}
 use Rattle.pack_files.specs.declared.entries.Entry.{Entry}
+use Rattle.pack_files.specs.declared.names.Name.{Name}
 use Rattle.pack_files.specs.Packs.{Row, row_of, first_rows, entry_of, table_of}
 
 abbrev row_with : List ℕ → Entry → Row
 row_with name entry = record { name = name; entry = entry }
-
--- a look-up in a map is one in its rows
-pub lookup_is_entry : {Z : Type 0} (name : List ℕ) (entries : List (Vec ℕ Z × Entry)) → lookup (λ key. pointwise nat_eq name key.items) entries ≡ entry_of name (table_of entries)
-lookup_is_entry name [] = refl
-lookup_is_entry name (e ∷ entries) = ap (λ found. cond (bytes_eq name e.0.items) (Some e.1) found) (lookup_is_entry name entries)
 
 -- the rows of other names
 abbrev others : Row → Row → Bool
@@ -75,44 +70,67 @@ entry_of-first_rows name (row ∷ rows) = by (bytes_eq name row.name) refl (entr
 rows_more : (rows : List (List ℕ)) (i : ℕ) → i < length rows → map row_of (take (i + 1) rows) ≡ map row_of (take i rows) ++ row_of (get_or rows i []) ∷ []
 rows_more rows i inside = map_more row_of rows i [] inside
 
--- whether a name is found among the entries of the rows read so far
-found_before : {Z : Type 0} (entries : List (Vec ℕ Z × Entry)) (rows : List Row) (name : List ℕ) (b : Bool) → table_of entries ≡ first_rows rows → is_some (lookup (λ key. pointwise nat_eq name key.items) entries) ≡ b → is_some (entry_of name rows) ≡ b
-found_before entries rows name b read found =
-    ap is_some (sym (entry_of-first_rows name rows) ∙ ap (entry_of name) (sym read) ∙ sym (lookup_is_entry name entries)) ∙ found
-
 -- a row of a name that came before adds nothing
-pub row_again : {Z : Type 0} (entries : List (Vec ℕ Z × Entry)) (rows : List (List ℕ)) (i : ℕ) (name : List ℕ) → i < length rows → name ≡ (row_of (get_or rows i [])).name → table_of entries ≡ first_rows (map row_of (take i rows)) → is_some (lookup (λ key. pointwise nat_eq name key.items) entries) ≡ true → table_of entries ≡ first_rows (map row_of (take (i + 1) rows))
+row_again : (entries : List Row) (rows : List (List ℕ)) (i : ℕ) (name : List ℕ) → i < length rows → name ≡ (row_of (get_or rows i [])).name → entries ≡ first_rows (map row_of (take i rows)) → is_some (entry_of name entries) ≡ true → entries ≡ first_rows (map row_of (take (i + 1) rows))
 row_again entries rows i name inside name_is read found =
     let row = row_of (get_or rows i []) in
     let before = map row_of (take i rows) in
-    let there : is_some (entry_of row.name before) ≡ true = subst (λ n. is_some (entry_of n before) ≡ true) name_is (found_before entries before name true read found) in
+    let there : is_some (entry_of row.name before) ≡ true = ap is_some (sym (entry_of-first_rows row.name before) ∙ ap (entry_of row.name) (sym read) ∙ ap (λ (n : List ℕ). entry_of n entries) (sym name_is)) ∙ found in
     let same : first_rows (before ++ row ∷ []) ≡ first_rows before = grown before row ∙ ap (after (first_rows before) row) there in
     read ∙ sym same ∙ ap first_rows (sym (rows_more rows i inside))
 
 -- and one of a new name is put last
-pub row_new : {Z : Type 0} (entries now : List (Vec ℕ Z × Entry)) (rows : List (List ℕ)) (i : ℕ) (name : List ℕ) (key : Vec ℕ Z) (entry : Entry) → i < length rows → name ≡ (row_of (get_or rows i [])).name → key.items ≡ name → entry ≡ (row_of (get_or rows i [])).entry → table_of entries ≡ first_rows (map row_of (take i rows)) → is_some (lookup (λ key. pointwise nat_eq name key.items) entries) ≡ false → now ≡ entries ++ (key, entry) ∷ [] → table_of now ≡ first_rows (map row_of (take (i + 1) rows))
-row_new entries now rows i name key entry inside name_is key_is entry_is read none added =
+row_new : (entries now : List Row) (rows : List (List ℕ)) (i : ℕ) (name : List ℕ) (entry : Entry) → i < length rows → name ≡ (row_of (get_or rows i [])).name → entry ≡ (row_of (get_or rows i [])).entry → entries ≡ first_rows (map row_of (take i rows)) → is_some (entry_of name entries) ≡ false → now ≡ entries ++ row_with name entry ∷ [] → now ≡ first_rows (map row_of (take (i + 1) rows))
+row_new entries now rows i name entry inside name_is entry_is read none added =
     let row = row_of (get_or rows i []) in
     let before = map row_of (take i rows) in
-    let absent : is_some (entry_of row.name before) ≡ false = subst (λ n. is_some (entry_of n before) ≡ false) name_is (found_before entries before name false read none) in
+    let absent : is_some (entry_of row.name before) ≡ false = ap is_some (sym (entry_of-first_rows row.name before) ∙ ap (entry_of row.name) (sym read) ∙ ap (λ (n : List ℕ). entry_of n entries) (sym name_is)) ∙ none in
     let more : first_rows (before ++ row ∷ []) ≡ first_rows before ++ row ∷ [] = grown before row ∙ ap (after (first_rows before) row) absent in
-    let last : row_with key.items entry ≡ row = ap (λ n. row_with n entry) (key_is ∙ name_is) ∙ ap (row_with row.name) entry_is in
-    ap table_of added
-    ∙ map-append (λ e. row_with e.0.items e.1) entries ((key, entry) ∷ [])
-    ∙ ap (λ r. table_of entries ++ r ∷ []) last
+    let last : row_with name entry ≡ row = ap (λ n. row_with n entry) name_is ∙ ap (row_with row.name) entry_is in
+    added
+    ∙ ap (λ r. entries ++ r ∷ []) last
     ∙ ap (λ l. l ++ row ∷ []) read
     ∙ sym more ∙ ap first_rows (sym (rows_more rows i inside))
 
 -- keys are the same where their bytes are
-abbrev pub same_key : {Z : Type 0} → Vec ℕ Z → Vec ℕ Z → Bool
-same_key key other = pointwise nat_eq key.items other.items
+abbrev pub same_key : Name → Name → Bool
+same_key key other = pointwise nat_eq key.bytes.items other.bytes.items
 
-none_found : {X : Type 0} (found : Option X) → is_some found ≡ false → found ≡ None
-none_found None is = refl
-none_found (Some x) is = cc
+-- a look-up in a map is one in its rows
+pub lookup_is_entry : (name : List ℕ) (entries : List (Name × Entry)) → lookup (λ key. pointwise nat_eq name key.bytes.items) entries ≡ entry_of name (table_of entries)
+lookup_is_entry name [] = refl
+lookup_is_entry name (e ∷ entries) = ap (λ found. cond (bytes_eq name e.0.bytes.items) (Some e.1) found) (lookup_is_entry name entries)
 
--- so does an insert of it
-pub row_inserted : {Z S : Type 0} (entries : IndexMap (Vec ℕ Z) Entry S) (now : List (Vec ℕ Z × Entry)) (rows : List (List ℕ)) (i : ℕ) (name : List ℕ) (key : Vec ℕ Z) (entry : Entry) → i < length rows → name ≡ (row_of (get_or rows i [])).name → key.items ≡ name → entry ≡ (row_of (get_or rows i [])).entry → table_of entries.entries ≡ first_rows (map row_of (take i rows)) → is_some (lookup (λ key. pointwise nat_eq name key.items) entries.entries) ≡ false → now ≡ insert_entry same_key entries.entries key entry → table_of now ≡ first_rows (map row_of (take (i + 1) rows))
-row_inserted entries now rows i name key entry inside name_is key_is entry_is read none added =
-    let absent : lookup (same_key key) entries.entries ≡ None = none_found (lookup (same_key key) entries.entries) (ap (λ n. is_some (lookup (λ other. pointwise nat_eq n other.items) entries.entries)) key_is ∙ none) in
-    row_new entries.entries now rows i name key entry inside name_is key_is entry_is read none (added ∙ insert_entry-new same_key entries key entry absent)
+-- an insert of what is there changes nothing
+inserted_again : (key : Name) (found : Entry) (entries : List (Name × Entry)) → lookup (same_key key) entries ≡ Some found → insert_entry same_key entries key found ≡ entries
+inserted_again key found [] is = cc
+inserted_again key found (e ∷ entries) is = by (same_key key e.0) refl (inserted_again key found entries)
+  where
+    by : (same : Bool) → same_key key e.0 ≡ same → (lookup (same_key key) entries ≡ Some found → insert_entry same_key entries key found ≡ entries) → insert_entry same_key (e ∷ entries) key found ≡ e ∷ entries
+    by true same rest =
+        let here : Some e.1 ≡ Some found = sym (ap (λ (b : Bool). cond b (Some e.1) (lookup (same_key key) entries)) same) ∙ is in
+        let value : e.1 ≡ found = cc (here) in
+        rw same (ap (λ (v : Entry). (e.0, v) ∷ entries) (sym value))
+    by false other rest =
+        let there : lookup (same_key key) entries ≡ Some found = sym (ap (λ (b : Bool). cond b (Some e.1) (lookup (same_key key) entries)) other) ∙ is in
+        rw other (ap (λ (l : List (Name × Entry)). e ∷ l) (rest there))
+
+-- a row's entry is put where none of its name is, and else the one that is there stays
+pub row_put : {S : Type 0} (entries : IndexMap Name Entry S) (now : List (Name × Entry)) (rows : List (List ℕ)) (i : ℕ) (name : List ℕ) (key : Name) (entry : Entry) → i < length rows → name ≡ (row_of (get_or rows i [])).name → key.bytes.items ≡ name → entry ≡ (row_of (get_or rows i [])).entry → table_of entries.entries ≡ first_rows (map row_of (take i rows)) → now ≡ insert_entry same_key entries.entries key (unwrap_or (lookup (same_key key) entries.entries) entry) → table_of now ≡ first_rows (map row_of (take (i + 1) rows))
+row_put entries now rows i name key entry inside name_is key_is entry_is read put = by (lookup (same_key key) entries.entries) refl
+  where
+    by : (found : Option Entry) → lookup (same_key key) entries.entries ≡ found → table_of now ≡ first_rows (map row_of (take (i + 1) rows))
+    by None none =
+        let absent : is_some (entry_of name (table_of entries.entries)) ≡ false =
+        ap is_some (ap (λ (n : List ℕ). entry_of n (table_of entries.entries)) (sym key_is) ∙ sym (lookup_is_entry key.bytes.items entries.entries) ∙ none) in
+        let added : now ≡ entries.entries ++ (key, entry) ∷ [] =
+        put ∙ ap (λ (o : Option Entry). insert_entry same_key entries.entries key (unwrap_or o entry)) none ∙ insert_entry-new same_key entries key entry none in
+        row_new (table_of entries.entries) (table_of now) rows i name entry inside name_is entry_is read absent
+        (ap table_of added ∙ map-append (λ (e : Name × Entry). row_with e.0.bytes.items e.1) entries.entries ((key, entry) ∷ [])
+        ∙ ap (λ (n : List ℕ). table_of entries.entries ++ row_with n entry ∷ []) key_is)
+    by (Some found) there =
+        let present : is_some (entry_of name (table_of entries.entries)) ≡ true =
+        ap is_some (ap (λ (n : List ℕ). entry_of n (table_of entries.entries)) (sym key_is) ∙ sym (lookup_is_entry key.bytes.items entries.entries) ∙ there) in
+        let same : now ≡ entries.entries =
+        put ∙ ap (λ (o : Option Entry). insert_entry same_key entries.entries key (unwrap_or o entry)) there ∙ inserted_again key found entries.entries there in
+        ap table_of same ∙ row_again (table_of entries.entries) rows i name inside name_is read present

@@ -1,2 +1,4 @@
 pub mod Answers
+pub mod Filters
+pub mod Hashes
 pub mod Packs

@@ -2,10 +2,10 @@
 use Rattle.std.specs.Prelude.{ℕ, ◌+◌, ◌*◌, ◌/◌, not, ◌||◌, nat_eq, nat_lt, if◌then◌else◌, List, [], ◌∷◌, length, take, map, filter, slice_range, Option, Some, None, Result, Ok, Err, bytes_eq, codes}
 use Rattle.std.specs.List.{starts_with}
 use Rattle.std.specs.Simd.{first_chunks}
-use Rattle.std.specs.declared.vec.Vec.{Vec}
 use Rattle.base_fields.specs.Fields.{u32_in}
 use Rattle.base_fields.specs.Texts.{until_zero}
 use Rattle.pack_files.specs.declared.entries.Entry.{Entry}
+use Rattle.pack_files.specs.declared.names.Name.{Name}
 use Rattle.pack_files.specs.declared.faults.PackFault.{PackFault}
 use Rattle.pack_files.specs.declared.faults.PackFault.TheVariants.{NotPack, TooMany, DirOutside}
 
@@ -50,8 +50,8 @@ pub record PackTable : Type 0 where
   pub whole : ℕ
 
 -- the entries of a map as rows
-abbrev pub table_of : {Z : Type 0} → List (Vec ℕ Z × Entry) → List Row
-table_of entries = map (λ e. record { name = e.0.items; entry = e.1 }) entries
+abbrev pub table_of : List (Name × Entry) → List Row
+table_of entries = map (λ e. record { name = e.0.bytes.items; entry = e.1 }) entries
 
 -- the first fault of a pack that begins with these bytes and has so many in all
 abbrev pub fault_of : List ℕ → ℕ → Option PackFault

@@ -5,6 +5,7 @@ ghost use Rattle.pack_files.specs.Packs.{row_of, first_rows, table_of, fault_of,
 
 use crate::entries::Entry;
 use crate::faults::PackFault;
+use crate::names::Name;
 use base_fields::{before_zero, u32_at};
 use indexmap::IndexMap;
 use std::alloc::{AllocError, Global};
@@ -44,7 +45,8 @@ pub(crate) fn row_count(header: &[u8; 12]) -> u32
 
 // The name in a row.
 fn name_in(row: &[u8; 64]) -> &[u8]
-    ensures { result.now ≡ (row_of row.now).name }
+    ensures name { result.now ≡ (row_of row.now).name }
+    ensures short { length result.now ≤ 56 }
 {
     before_zero(&row[..56])
 }
@@ -63,20 +65,13 @@ fn entry_in(row: &[u8; 64]) -> Entry
 pub(crate) fn first_entries(
     alloc: Global,
     rows: &[[u8; 64]],
-) -> Result<IndexMap<Vec<u8>, Entry>, AllocError>
+) -> Result<IndexMap<Name, Entry>, AllocError>
     ensures { IfOk result (λ entries. table_of entries.entries ≡ first_rows (map row_of rows.now)) }
 {
-    let mut entries = IndexMap::new(alloc);
+    let mut entries = IndexMap::with_capacity(alloc, rows.len())?;
     for row in rows {
-        let name = name_in(row);
-        if entries.contains_key(name) {
-            continue;
-        }
-        let key = Vec::from_slice(alloc, name)?;
-        match entries.insert(key, entry_in(row)) {
-            Ok(_) => {}
-            Err(_) => return Err(AllocError),
-        }
+        let name = Name::from_bytes(name_in(row));
+        entries.entry(name)?.or_insert(entry_in(row));
     }
     Ok(entries)
 }

@@ -1,7 +1,8 @@
 // The files of a pack.
-ghost use Rattle.std.specs.Prelude.{◌≡◌};
-ghost use Rattle.pack_files.specs.Packs.{entry_of};
+ghost use Rattle.std.specs.Prelude.{◌≡◌, ◌<◌, length, option_map, slice_get, Some};
+ghost use Rattle.pack_files.specs.Packs.{Row, entry_of};
 
+use crate::names::{Name, Sought};
 use indexmap::IndexMap;
 use std::marker::Model;
 
@@ -20,7 +21,7 @@ pub struct Pack {
     pub(crate) count: u32,
     pub(crate) whole: u64,
     // The first entry of each name.
-    pub(crate) entries: IndexMap<Vec<u8>, Entry>,
+    pub(crate) entries: IndexMap<Name, Entry>,
 }
 
 impl Model for Pack {
@@ -36,7 +37,23 @@ impl Pack {
     pub fn entry(&self, name: &[u8]) -> Option<Entry>
         ensures { result ≡ entry_of name.now self.now.rows }
     {
-        self.entries.get(name).copied()
+        self.entries.get(Sought { bytes: name }).copied()
+    }
+
+    /// How many rows there are, one for each name.
+    pub fn rows(&self) -> usize
+        ensures { result ≡ length self.now.rows }
+    {
+        self.entries.len()
+    }
+
+    /// The name of the row of this number.
+    pub fn name(&self, row: usize) -> &[u8]
+        requires { row < length self.now.rows }
+        ensures { option_map (λ (r : Row). r.name) (slice_get self.now.rows row) ≡ Some result.now }
+    {
+        let (name, _) = self.entries.get_index(row).unwrap();
+        name.as_bytes()
     }
 
     /// How many entries the directory has, those of a name that came before included.

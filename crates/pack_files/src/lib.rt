@@ -8,10 +8,15 @@
 mod directory;
 mod entries;
 mod faults;
+mod filter;
+mod hashing;
+mod names;
 mod reading;
 
 pub use entries::{Entry, Pack};
 pub use faults::{PackError, PackFault};
+pub use filter::Filter;
+pub use hashing::name_hash;
 pub use reading::read_pack;
 
 #[cfg(test)]

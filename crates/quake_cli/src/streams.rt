@@ -2,6 +2,7 @@
 ghost use Rattle.std.specs.Prelude.{◌≡◌, ◌≤◌, ◌<◌, ℕ, OnOk, OnErr, length, take};
 ghost use Rattle.std.specs.Io.KnownBytes.{Appends};
 
+use arrayvec::ArrayVec;
 use outside_io::{Sink, SinkFailed, Source, SourceFailed};
 use std::io;
 use std::io::{ErrorKind, Read, Stdin, Stdout, Write};
@@ -44,13 +45,19 @@ impl Source for StdinSource {
     }
 }
 
-/// Standard output. It tells no bytes, and counts its faults: the puts that the host failed.
+// How many bytes are held back at most.
+const ROOM: usize = 8192;
+
+/// Standard output. It tells no bytes, and counts its faults: the puts that failed, and the flushes that the host failed.
 ///
-/// A piece is written at once, since std keeps no bytes of this stream back: nothing is lost where the program ends, and
-/// after a fault the host has a front of what was put.
+/// Pieces are held back, and are written together where there is no room for more and at a flush. After a failed write nothing
+/// is written any more, and the host has a front of what was put.
 #[derive(Drop)]
 pub struct StdoutSink {
     output: Stdout,
+    held: ArrayVec<u8, ROOM>,
+    // Whether a write failed.
+    failed: bool,
     faults: u64,
 }
 
@@ -58,12 +65,50 @@ impl StdoutSink {
     pub fn new(output: Stdout) -> StdoutSink
         ensures { result.faults ≡ 0 }
     {
-        StdoutSink { output, faults: 0 }
+        StdoutSink {
+            output,
+            held: ArrayVec::new(),
+            failed: false,
+            faults: 0,
+        }
+    }
+
+    /// Whether a write failed. Then some of what was put may be lost.
+    pub fn has_failed(&self) -> bool
+        ensures { result ≡ self.now.failed }
+    {
+        self.failed
+    }
+
+    // Writes what is held back.
+    fn write_held(&mut self)
+        ensures { self.new.faults ≡ self.old.faults }
+    {
+        if let Err(_) = put_whole(&mut self.output, self.held.as_slice()) {
+            self.failed = true;
+        }
+        self.held.clear();
+    }
+
+    // Holds a piece back, or writes it with all before it where there is no room.
+    fn take(&mut self, piece: &[u8])
+        ensures { self.new.faults ≡ self.old.faults }
+    {
+        if self.held.try_extend_from_slice(piece).is_ok() {
+            return;
+        }
+        self.write_held();
+        if self.failed || self.held.try_extend_from_slice(piece).is_ok() {
+            return;
+        }
+        if let Err(_) = put_whole(&mut self.output, piece) {
+            self.failed = true;
+        }
     }
 }
 
 impl Sink for StdoutSink {
-    ghost use Rattle.std.specs.Prelude.{◌≡◌, None};
+    ghost use Rattle.std.specs.Prelude.{◌≡◌, ◌≤◌, None};
     ghost use Rattle.outside_io.specs.Causes.{after_call};
 
     ghost got = { λ sink. None };
@@ -73,12 +118,25 @@ impl Sink for StdoutSink {
     fn put(&mut self, piece: &[u8]) -> Result<(), SinkFailed>
         ensures faults { self.new.faults ≡ after_call result self.old.faults }
     {
-        match put_whole(&mut self.output, piece) {
-            Ok(()) => Ok(()),
-            Err(_) => {
-                self.faults = self.faults.saturating_add(1);
-                Err(SinkFailed)
-            }
+        if !self.failed {
+            self.take(piece);
+        }
+        if self.failed {
+            self.faults = self.faults.saturating_add(1);
+            return Err(SinkFailed);
+        }
+        Ok(())
+    }
+
+    fn flush(&mut self)
+        ensures faults { self.old.faults ≤ self.new.faults }
+    {
+        if self.failed {
+            return;
+        }
+        self.write_held();
+        if self.failed {
+            self.faults = self.faults.saturating_add(1);
         }
     }
 }

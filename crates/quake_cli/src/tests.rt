@@ -126,6 +126,8 @@ fn a_sink_takes_a_piece(rt: HostRuntime) {
     let mut sink = StdoutSink::new(rt.stdout());
     assert_eq!(rt; sink.put(b"a piece\n"), Ok(()));
     assert_eq!(rt; sink.put(b""), Ok(()));
+    sink.flush();
+    assert!(rt; !sink.has_failed());
 }
 
 /// The loops of the adapters, over readers and writers that give and take less than they are asked.

@@ -102,17 +102,29 @@ fn put_both<O: Sink>(first: &[u8], second: &[u8], out: &mut O) -> Result<(), Sin
     out.put(second)
 }
 
-/// Puts the pieces one after another, at once where they aren't long. After an error a front of their text was added.
+fn put_piece<O: Sink>(out: &mut O, piece: &Piece) -> Result<(), SinkFailed>
+    ensures added { OnOk result (Adds (piece_text piece.now) (O.got out.old) (O.got out.new)) }
+    ensures part { OnErr result (AddsFront (piece_text piece.now) (O.got out.old) (O.got out.new)) }
+    ensures cause { HasCause (O.sink_faults out.old) (O.sink_faults out.new) result }
+{
+    match piece {
+        Piece::Text(text) => out.put(text),
+        Piece::Number(number) => out.put(Buffer::new().format(*number).as_bytes()),
+    }
+}
+
+/// Puts the pieces one after another. After an error a front of their text was added.
 pub fn put_all<O: Sink>(out: &mut O, pieces: &[Piece]) -> Result<(), SinkFailed>
     ensures added { OnOk result (Adds (text_of pieces.now) (O.got out.old) (O.got out.new)) }
     ensures part { OnErr result (AddsFront (text_of pieces.now) (O.got out.old) (O.got out.new)) }
     ensures cause { HasCause (O.sink_faults out.old) (O.sink_faults out.new) result }
 {
-    let mut reply = Reply::new();
-    if let Err(failed) = reply.add_all(pieces, out) {
-        return Err(failed);
+    for piece in pieces {
+        if let Err(failed) = put_piece(out, piece) {
+            return Err(failed);
+        }
     }
-    reply.finish(out)
+    Ok(())
 }
 
 #[cfg(test)]

@@ -18,6 +18,7 @@ use Rattle.search_paths.specs.declared.mounted.Mounted.TheVariants as kept
 use Rattle.search_paths.specs.Answers.{folders_among, folder_in, AsksInOrder}
 use Rattle.search_paths.specs.Counts.{calls_more, CallsOnce}
 use Rattle.search_paths.specs.Kept.{row_of, folder_of, mount_of, IsDirectory}
+use Rattle.pack_files.specs.declared.filter.Filter.{Filter}
 use Rattle.search_paths.specs.Path.{IsPath, SamePath}
 
 get_other : {X : Type 0} (xs : List X) (at number : ℕ) (new : X) → (at ≡ number → ⊥) → slice_get (set xs at new) number ≡ slice_get xs number
@@ -105,8 +106,10 @@ module _ {F : Type 0} (files : F → Option (List File)) (before now : List F) (
   many : length now ≡ length before
   many = omega (arith, ap length told, length-map now files, length-map before files)
 
-  pub still_path : IsPath files (record { folders = before; mounts = mounts }) → IsPath files (record { folders = now; mounts = mounts })
-  still_path is = record {
+  pub still_path : (filters : List Filter) → IsPath files filters (record { folders = before; mounts = mounts }) → IsPath files filters (record { folders = now; mounts = mounts })
+  still_path filters is = record {
+    one_each = is.one_each ∙ sym many;
+    filtered = is.filtered;
     most = omega (arith, is.most, many);
     few = omega (arith, is.few, many);
     inside = subst (λ n. All (λ mounted. folder_of mounted < n) mounts) (sym many) is.inside;

@@ -11,7 +11,7 @@ use Rattle.pack_files.specs.Packs.{Row, entry_of}
 use Rattle.search_paths.specs.declared.mounted.Mounted.{Mounted}
 use Rattle.search_paths.specs.declared.mounted.Mounted.TheVariants as kept
 use Rattle.search_paths.specs.Kept.{told_at, mount_of}
-use Rattle.search_paths.specs.Mounts.{FileAt, Mount, cut, file_in, file_within, whole_file, packed_file, folder_mount, pack_mount, pack_name, find_from, find_in}
+use Rattle.search_paths.specs.Mounts.{FileAt, Mount, cut, file_in, file_within, whole_file, packed_file, folder_mount, pack_mount, pack_name, find_from, find_in, here_or_later, find_told_from, find_told}
 use Rattle.search_paths.specs.Path.{PathState, all_some, told_of, rows_of, told_mounts, mount_at, mounts_of}
 use Rattle.search_paths.proofs.Looking.{file_in-folder, file_in-pack}
 use Rattle.search_paths.proofs.Rows.{all_are_listed}
@@ -37,31 +37,36 @@ pub all_are_there : {X : Type 0} (ys : List X) → all_some (map Some ys) ≡ So
 all_are_there [] = refl
 all_are_there (y ∷ ys) = ap (option_map (λ more. y ∷ more)) (all_are_there ys)
 
--- A mount that is told is the one of its number.
-pub mount_at-told : {F : Type 0} (files : F → Option (List File)) (path : PathState F) (mounts : List Mount) (number : ℕ) → mounts_of files path ≡ Some mounts → mount_at files number path ≡ slice_get mounts number
-mount_at-told files path mounts number told =
-    ap (λ l. option_flatten (slice_get l number)) (each_is_there (told_mounts files path) mounts told) ∙ ap option_flatten (slice_get-map Some mounts number) ∙ flat (slice_get mounts number)
-  where
-    flat : (found : Option Mount) → option_flatten (option_map Some found) ≡ found
-    flat None = refl
-    flat (Some mount) = refl
-
 -- The rows of the path are those of its mounts.
 pub rows-told : {F : Type 0} (files : F → Option (List File)) (path : PathState F) (mounts : List Mount) → mounts_of files path ≡ Some mounts → map (λ mount. mount.row) mounts ≡ rows_of path
 rows-told files path mounts told = subst (λ all. IfSome all (λ ms. map (λ mount. mount.row) ms ≡ rows_of path)) told (all_are_listed (told_of files path) path.mounts)
 
+-- Where all mounts are told, the walk finds what there is.
+walk_on : (number : ℕ) (found : Option FileAt) (later : Option (ℕ × FileAt)) → here_or_later number found (Some later) ≡ Some (option_or (option_map (λ file. (number, file)) found) later)
+walk_on number None later = refl
+walk_on number (Some file) later = refl
+
+find_told_from-all : (number : ℕ) (name : List ℕ) (mounts : List Mount) → find_told_from number name (map Some mounts) ≡ Some (find_from number name mounts)
+find_told_from-all number name [] = refl
+find_told_from-all number name (mount ∷ mounts) =
+    ap (here_or_later number (file_in name mount.files)) (find_told_from-all (number + 1) name mounts) ∙ walk_on number (file_in name mount.files) (find_from (number + 1) name mounts)
+
+pub find_told-all : (name : List ℕ) (mounts : List Mount) → find_told name (map Some mounts) ≡ Some (find_in name mounts)
+find_told-all name mounts = find_told_from-all 0 name mounts
+
 -- The mount that is found has the file.
-pub record IsFound (name : List ℕ) (mounts : List Mount) (number : ℕ) (file : FileAt) : Type 0 where
+pub record IsFound (name : List ℕ) (mounts : List (Option Mount)) (number : ℕ) (file : FileAt) : Type 0 where
   pub mount : Mount
-  pub at : slice_get mounts number ≡ Some mount
+  pub at : slice_get mounts number ≡ Some (Some mount)
   pub has : file_in name mount.files ≡ Some file
 
-found_from : (from : ℕ) (name : List ℕ) (mounts : List Mount) (found : ℕ × FileAt) → find_from from name mounts ≡ Some found → (at : ℕ) × (found.0 ≡ from + at) × IsFound name mounts at found.1
-found_from from name [] found is = cc
-found_from from name (mount ∷ mounts) found is = by (file_in name mount.files) refl (found_from (from + 1) name mounts found) is
+found_from : (from : ℕ) (name : List ℕ) (mounts : List (Option Mount)) (found : ℕ × FileAt) → find_told_from from name mounts ≡ Some (Some found) → (at : ℕ) × (found.0 ≡ from + at) × IsFound name mounts at found.1
+found_from from name [] found is = absurd (cc)
+found_from from name (None ∷ mounts) found is = absurd (cc)
+found_from from name (Some mount ∷ mounts) found is = by (file_in name mount.files) refl (found_from (from + 1) name mounts found) is
   where
-    by : (here : Option FileAt) → file_in name mount.files ≡ here → (find_from (from + 1) name mounts ≡ Some found → (at : ℕ) × (found.0 ≡ from + 1 + at) × IsFound name mounts at found.1)
-        → option_or (option_map (λ file. (from, file)) here) (find_from (from + 1) name mounts) ≡ Some found → (at : ℕ) × (found.0 ≡ from + at) × IsFound name (mount ∷ mounts) at found.1
+    by : (here : Option FileAt) → file_in name mount.files ≡ here → (find_told_from (from + 1) name mounts ≡ Some (Some found) → (at : ℕ) × (found.0 ≡ from + 1 + at) × IsFound name mounts at found.1)
+        → here_or_later from here (find_told_from (from + 1) name mounts) ≡ Some (Some found) → (at : ℕ) × (found.0 ≡ from + at) × IsFound name (Some mount ∷ mounts) at found.1
     by None known rest same =
         let later = rest same in
         (suc later.0, omega (arith, later.1), record { mount = later.2.mount; at = later.2.at; has = later.2.has })
@@ -70,11 +75,15 @@ found_from from name (mount ∷ mounts) found is = by (file_in name mount.files)
         let number : found.0 ≡ from + zero = omega (arith, ap (λ (p : ℕ × FileAt). p.0) is_pair) in
         (zero, number, record { mount = mount; at = refl; has = known ∙ ap (λ (p : ℕ × FileAt). Some p.1) is_pair })
 
-pub find_in-found : (name : List ℕ) (mounts : List Mount) (found : ℕ × FileAt) → find_in name mounts ≡ Some found → IsFound name mounts found.0 found.1
-find_in-found name mounts found is =
+pub find_told-found : (name : List ℕ) (mounts : List (Option Mount)) (found : ℕ × FileAt) → find_told name mounts ≡ Some (Some found) → IsFound name mounts found.0 found.1
+find_told-found name mounts found is =
     let later = found_from 0 name mounts found is in
     let number : later.0 ≡ found.0 = omega (arith, later.1) in
     subst (λ n. IsFound name mounts n found.1) number later.2
+
+-- It is the one of its number on the path.
+pub mount_at-found : {F : Type 0} (files : F → Option (List File)) (path : PathState F) (name : List ℕ) (number : ℕ) (file : FileAt) → (found : IsFound name (told_mounts files path) number file) → mount_at files number path ≡ Some found.mount
+mount_at-found files path name number file found = ap option_flatten found.at
 
 -- Each file of a mount is cut from a whole.
 pub record IsCut (file : FileAt) : Type 0 where
@@ -119,8 +128,8 @@ pub mount_at-cut : {F : Type 0} (files : F → Option (List File)) (path : PathS
 mount_at-cut files path number mount name file is has =
     cut_at name (told_of files path) (slice_get path.mounts number) mount file (ap option_flatten (sym (slice_get-map (mount_of (told_of files path)) path.mounts number)) ∙ is) has
 
-pub found-cut : {F : Type 0} (files : F → Option (List File)) (path : PathState F) (mounts : List Mount) (name : List ℕ) (number : ℕ) (file : FileAt) → mounts_of files path ≡ Some mounts → IsFound name mounts number file → IsCut file
-found-cut files path mounts name number file told found = mount_at-cut files path number found.mount name file (mount_at-told files path mounts number told ∙ found.at) found.has
+pub found-cut : {F : Type 0} (files : F → Option (List File)) (path : PathState F) (name : List ℕ) (number : ℕ) (file : FileAt) → IsFound name (told_mounts files path) number file → IsCut file
+found-cut files path name number file found = mount_at-cut files path number found.mount name file (mount_at-found files path name number file found) found.has
 
 -- Such a file has its bytes exactly where it lies inside the whole.
 length-part : (bytes : List ℕ) (offset size : ℕ) → offset + size ≤ length bytes → length (slice_range bytes offset (offset + size)) ≡ size

@@ -1,7 +1,7 @@
 -- The first mount that has a name, as mounts are asked one after another.
 use Rattle.std.proofs.Common.{◌≡◌, ℕ, suc, ◌+◌, ◌<◌, List, ◌∷◌, length, map, drop, get_or, Option, Some, None, IfSome, refl, sym, ap, subst, ◌∙◌, ◌≤◌, add-one, drop-cons, arith}
 use Rattle.std.specs.Prelude.{slice_get, option_map}
-use Rattle.std.specs.Option.{option_flatten, option_or}
+use Rattle.std.specs.Option.{option_flatten}
 use Rattle.std.proofs.Math.ListN.{get_or-map}
 use Rattle.std.proofs.lemmas.Grind.{common_steps}
 use Rattle.std.proofs.lemmas.List.{drop_all}
@@ -9,51 +9,37 @@ use Rattle.std.proofs.lemmas.Option.{slice_get-map, slice_get_read}
 use Rattle.outside_io.specs.Files.{File}
 use Rattle.search_paths.specs.declared.answers.FileRef.{FileRef}
 use Rattle.search_paths.specs.declared.mounted.Mounted.{Mounted}
-use Rattle.search_paths.specs.Answers.{ref_of, HasFile}
+use Rattle.search_paths.specs.Answers.{ref_of, placed, HasFile}
 use Rattle.search_paths.specs.Kept.{mount_of}
-use Rattle.search_paths.specs.Mounts.{FileAt, Mount, file_in, find_from}
-use Rattle.search_paths.specs.Path.{all_some}
+use Rattle.search_paths.specs.Mounts.{FileAt, Mount, file_in, here_or_later, find_told_from}
 
--- where a file of a mount stands
-abbrev placed : ℕ × FileAt → FileRef
-placed found = ref_of found.0 found.1
-
--- this is the first file of the name, where all these mounts are told, the first of this number
+-- this is the first file of the name in these mounts, the first of this number, where they tell it
 abbrev pub IsFirst : ℕ → List ℕ → List (Option Mount) → Option FileRef → Type 0
-IsFirst number name mounts file = IfSome (all_some mounts) (λ all. file ≡ option_map placed (find_from number name all))
+IsFirst number name mounts file = IfSome (find_told_from number name mounts) (λ found. file ≡ option_map placed found)
 
 -- this is what the mount has of the name
 abbrev pub IsIn : ℕ → List ℕ → Option Mount → Option FileRef → Type 0
 IsIn number name mount file = IfSome mount (λ m. file ≡ option_map (ref_of number) (file_in name m.files))
 
 -- in front of the others, a mount without the name
-behind : (number : ℕ) (name : List ℕ) (file : Option FileRef) (found : Option FileAt) (all : List Mount) → None ≡ option_map (ref_of number) found → file ≡ option_map placed (find_from (number + 1) name all)
-    → file ≡ option_map placed (option_or (option_map (λ at. (number, at)) found) (find_from (number + 1) name all))
-behind number name file None all none is = is
-behind number name file (Some at) all none is = cc
+behind : (number : ℕ) (file : Option FileRef) (found : Option FileAt) (later : Option (Option (ℕ × FileAt))) → None ≡ option_map (ref_of number) found → IfSome later (λ found. file ≡ option_map placed found)
+    → IfSome (here_or_later number found later) (λ found. file ≡ option_map placed found)
+behind number file None later none is = is
+behind number file (Some at) later none is = absurd (cc)
 
 pub without : (number : ℕ) (name : List ℕ) (mount : Option Mount) (mounts : List (Option Mount)) (file : Option FileRef) → IsIn number name mount None → IsFirst (number + 1) name mounts file → IsFirst number name (mount ∷ mounts) file
 without number name None mounts file none is = tt
-without number name (Some mount) mounts file none is = by (all_some mounts) is
-  where
-    by : (all : Option (List Mount)) → IfSome all (λ ms. file ≡ option_map placed (find_from (number + 1) name ms))
-        → IfSome (option_map (λ more. mount ∷ more) all) (λ ms. file ≡ option_map placed (find_from number name ms))
-    by None same = tt
-    by (Some ms) same = behind number name file (file_in name mount.files) ms none same
+without number name (Some mount) mounts file none is = behind number file (file_in name mount.files) (find_told_from (number + 1) name mounts) none is
 
 -- and one with it
-front : (number : ℕ) (name : List ℕ) (file : FileRef) (found : Option FileAt) (all : List Mount) → Some file ≡ option_map (ref_of number) found
-    → Some file ≡ option_map placed (option_or (option_map (λ at. (number, at)) found) (find_from (number + 1) name all))
-front number name file None all is = cc
-front number name file (Some at) all is = is
+front : (number : ℕ) (file : FileRef) (found : Option FileAt) (later : Option (Option (ℕ × FileAt))) → Some file ≡ option_map (ref_of number) found
+    → IfSome (here_or_later number found later) (λ found. Some file ≡ option_map placed found)
+front number file None later is = absurd (cc)
+front number file (Some at) later is = is
 
 pub with : (number : ℕ) (name : List ℕ) (mount : Option Mount) (mounts : List (Option Mount)) (file : FileRef) → IsIn number name mount (Some file) → IsFirst number name (mount ∷ mounts) (Some file)
 with number name None mounts file is = tt
-with number name (Some mount) mounts file is = by (all_some mounts)
-  where
-    by : (all : Option (List Mount)) → IfSome (option_map (λ more. mount ∷ more) all) (λ ms. Some file ≡ option_map placed (find_from number name ms))
-    by None = tt
-    by (Some ms) = front number name file (file_in name mount.files) ms is
+with number name (Some mount) mounts file is = front number file (file_in name mount.files) (find_told_from (number + 1) name mounts) is
 
 -- the mounts from one on
 from_one : {A B : Type 0} (v : A → B) (xs : List A) (at : ℕ) (x : A) → at < length xs → x ≡ get_or xs at x → drop at (map v xs) ≡ v x ∷ drop (at + 1) (map v xs)

@@ -1,11 +1,14 @@
 -- A folder's mounts, while its packs are read one after another.
-use Rattle.std.proofs.Common.{◌≡◌, ℕ, zero, suc, ◌+◌, ◌≤◌, List, [], ◌∷◌, ◌++◌, length, map, reverse, Option, Some, None, Ok, Err, All, IsOkAnd, IfSome, refl, ap, sym, ◌∙◌, subst, add-zero, arith}
+use Rattle.std.proofs.Common.{◌≡◌, get_or, ℕ, zero, suc, ◌+◌, ◌≤◌, List, [], ◌∷◌, ◌++◌, length, map, reverse, Option, Some, None, Ok, Err, All, IsOkAnd, IfSome, refl, ap, sym, ◌∙◌, subst, add-zero, arith}
 use Rattle.std.specs.Prelude.{option_map}
 use Rattle.std.proofs.lemmas.List.{map_push, reverse-append, length-append}
 use Rattle.std.proofs.lemmas.List.Elements.{All-push}
 use Rattle.std.proofs.lemmas.Grind.{reverse_onto}
 use Rattle.outside_io.specs.Files.{File, bytes_of}
 use Rattle.pack_files.specs.declared.faults.PackFault.{PackFault}
+use Rattle.pack_files.specs.declared.filter.Filter.{Filter}
+use Rattle.pack_files.specs.Filters.{may_have}
+use Rattle.pack_files.specs.Hashes.{hash_of}
 use Rattle.pack_files.specs.Packs.{PackTable, pack_of}
 use Rattle.search_paths.specs.declared.answers.MountError.{MountError}
 use Rattle.search_paths.specs.declared.answers.MountError.TheVariants as error
@@ -15,7 +18,7 @@ use Rattle.search_paths.specs.declared.mounted.Mounted.TheVariants as kept
 use Rattle.search_paths.specs.Answers.{pack_rows, AddsRows, IsMounted}
 use Rattle.search_paths.specs.Kept.{row_of}
 use Rattle.search_paths.specs.Mounts.{Mount, pack_name, pack_mount, before_missing, packs_from, in_front, own_mounts, folder_mount}
-use Rattle.search_paths.specs.Own.{mount_in, IsFound, IsOwn}
+use Rattle.search_paths.specs.Own.{mount_in, IsFound, IsOwn, IsIn}
 
 -- The first packs of the folder are mounted, up to this number and in their order, and with so many more from there on the
 -- mounts are those of the folder.
@@ -169,3 +172,15 @@ pub bad_told : (folder pack left next : ℕ) (told : Option (List File)) (mounts
     → IfSome told (λ files. IsMounted (own_mounts folder files) [] [] (Err error))
 bad_told folder pack left next None mounts error is found so_far = tt
 bad_told folder pack left next (Some files) mounts error is found so_far = bad_is folder pack left next files mounts error is found so_far
+
+-- a filter of which more is known
+
+pub first_in : (filter : Filter) (folder : ℕ) (mounts : List Mounted) → mounts ≡ kept.Folder folder ∷ [] → All (IsIn filter) mounts
+first_in filter folder mounts is = rw is (All-push (IsIn filter) [] (kept.Folder folder) (λ k d short. absurd (omega arith)) tt)
+
+one_in : (filter now : Filter) → ((other name : ℕ) → may_have filter.masks.items other name ≡ 1 → may_have now.masks.items other name ≡ 1) → (mounted : Mounted) → IsIn filter mounted → IsIn now mounted
+one_in filter now more (kept.Folder folder) is = tt
+one_in filter now more (kept.Pack folder pack directory) is = (is.0, λ j row there. more pack (hash_of row.name) (is.1 j row there))
+
+pub still_in : (filter now : Filter) → ((other name : ℕ) → may_have filter.masks.items other name ≡ 1 → may_have now.masks.items other name ≡ 1) → (mounts : List Mounted) → All (IsIn filter) mounts → All (IsIn now) mounts
+still_in filter now more mounts is = λ k d low. one_in filter now more (get_or mounts k d) (is k d low)

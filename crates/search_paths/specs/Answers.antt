@@ -8,15 +8,19 @@ use Rattle.search_paths.specs.declared.answers.MountError.TheVariants as error
 use Rattle.search_paths.specs.declared.answers.MountRow.{MountRow}
 use Rattle.search_paths.specs.declared.answers.MountRow.TheVariants as row
 use Rattle.search_paths.specs.Counts.{CallsOnce}
-use Rattle.search_paths.specs.Mounts.{FileAt, Mount, BadPack, bad_pack, file_in, find_in}
+use Rattle.search_paths.specs.Mounts.{FileAt, Mount, BadPack, bad_pack, file_in, find_told}
 
 -- where a file stands on the path, in the mount of this number
 abbrev pub ref_of : ℕ → FileAt → FileRef
 ref_of mount file = record { mount = mount; offset = file.offset; length = file.size; whole = file.whole }
 
--- where the first file of this name stands on the path
-abbrev pub first_of : List ℕ → List Mount → Option FileRef
-first_of name mounts = option_map (λ found. ref_of found.0 found.1) (find_in name mounts)
+-- where a file that was found stands
+abbrev pub placed : ℕ × FileAt → FileRef
+placed found = ref_of found.0 found.1
+
+-- this is the first file of the name, or there is none, where the mounts tell it
+abbrev pub IsFirstOf : List ℕ → List (Option Mount) → Option FileRef → Type 0
+IsFirstOf name mounts file = IfSome (find_told name mounts) (λ found. file ≡ option_map placed found)
 
 -- where the mount tells its files, it has a file of this name there
 abbrev pub HasFile : List ℕ → FileRef → Option Mount → Type 0

@@ -1,7 +1,9 @@
 -- What is kept of mounts, and what it means by what the folders tell.
-use Rattle.std.specs.Prelude.{◌≡◌, ℕ, List, slice_get, Option, Some, option_map, option_and_then, Ok}
+use Rattle.std.specs.Prelude.{◌≡◌, ◌<◌, ⊤, IsSomeAnd, ℕ, List, slice_get, Option, Some, option_map, option_and_then, Ok}
 use Rattle.std.specs.Option.{option_flatten, ForSome}
 use Rattle.outside_io.specs.Files.{File, bytes_of}
+use Rattle.pack_files.specs.declared.filter.Filter.{Filter}
+use Rattle.pack_files.specs.Filters.{HasRows}
 use Rattle.pack_files.specs.Packs.{PackTable, pack_of}
 use Rattle.search_paths.specs.declared.answers.MountRow.{MountRow}
 use Rattle.search_paths.specs.declared.answers.MountRow.TheVariants as row
@@ -34,3 +36,8 @@ mount_of told (kept.Pack folder pack directory) =
 abbrev pub IsDirectory : List (Option (List File)) → Mounted → Type 0
 IsDirectory told mounted = (folder pack : ℕ) (directory : PackTable) → mounted ≡ kept.Pack folder pack directory
     → ForSome (told_at folder told) (λ files. option_map pack_of (bytes_of (pack_name pack) files) ≡ Some (Ok directory))
+
+-- the filter of its folder may have each name of a pack
+abbrev pub IsFiltered : List Filter → Mounted → Type 0
+IsFiltered filters (kept.Folder folder) = ⊤
+IsFiltered filters (kept.Pack folder pack directory) = (pack < 32) × IsSomeAnd (slice_get filters folder) (λ filter. HasRows filter.masks.items pack directory.rows)

@@ -61,6 +61,22 @@ find_from number name (mount ∷ mounts) =
 abbrev pub find_in : List ℕ → List Mount → Option (ℕ × FileAt)
 find_in name mounts = find_from 0 name mounts
 
+-- what is found in a mount of this number, or what the later mounts have
+abbrev pub here_or_later : ℕ → Option FileAt → Option (Option (ℕ × FileAt)) → Option (Option (ℕ × FileAt))
+here_or_later number None later = later
+here_or_later number (Some file) later = Some (Some (number, file))
+
+-- The same among mounts of which not all are told: they are walked from the front, and where one that isn't told comes before the
+-- first that has the name, it is not told what is found. The first mount has this number.
+abbrev pub find_told_from : ℕ → List ℕ → List (Option Mount) → Option (Option (ℕ × FileAt))
+find_told_from number name [] = Some None
+find_told_from number name (None ∷ mounts) = None
+find_told_from number name (Some mount ∷ mounts) =
+    here_or_later number (file_in name mount.files) (find_told_from (number + 1) name mounts)
+
+abbrev pub find_told : List ℕ → List (Option Mount) → Option (Option (ℕ × FileAt))
+find_told name mounts = find_told_from 0 name mounts
+
 -- the name of the pack of this number
 abbrev pub pack_name : ℕ → List ℕ
 pack_name number = codes "pak" ++ (decimal number ++ codes ".pak")

@@ -2,12 +2,13 @@
 use Rattle.std.specs.Prelude.{◌≡◌, ◌*◌, ◌<◌, ◌≤◌, ℕ, List, [], ◌∷◌, ◌++◌, All, length, map, slice_get, Option, Some, option_map, option_and_then, Result}
 use Rattle.std.specs.Option.{option_flatten}
 use Rattle.outside_io.specs.Files.{File}
+use Rattle.pack_files.specs.declared.filter.Filter.{Filter}
 use Rattle.search_paths.specs.declared.answers.MountError.{MountError}
 use Rattle.search_paths.specs.declared.answers.MountRow.{MountRow}
 use Rattle.search_paths.specs.declared.mounted.Mounted.{Mounted}
 use Rattle.search_paths.specs.Answers.{IsCaused}
 use Rattle.search_paths.specs.Mounts.{Mount}
-use Rattle.search_paths.specs.Kept.{folder_of, row_of, mount_of, IsDirectory}
+use Rattle.search_paths.specs.Kept.{folder_of, row_of, mount_of, IsDirectory, IsFiltered}
 
 -- the folders that are held, each at its number, and what is kept of the mounts, from the front of the path on
 pub record PathState (F : Type 0) : Type 0 where
@@ -43,12 +44,15 @@ module _ {F : Type 0} (files : F → Option (List File)) where
   abbrev pub mounts_of : PathState F → Option (List Mount)
   mounts_of path = all_some (told_mounts path)
 
--- At most 65536 folders, and 33 mounts for each. The folder of a mount is there, and a directory is the one that it has.
-pub record IsPath {F : Type 0} (files : F → Option (List File)) (path : PathState F) : Type 0 where
+-- At most 65536 folders, and 33 mounts for each. The folder of a mount is there, and a directory is the one that it has. Each
+-- folder has a filter, by which its packs may have each of their names.
+pub record IsPath {F : Type 0} (files : F → Option (List File)) (filters : List Filter) (path : PathState F) : Type 0 where
   pub most : length path.folders ≤ 65536
   pub few : length path.mounts ≤ 33 * length path.folders
   pub inside : All (λ mounted. folder_of mounted < length path.folders) path.mounts
   pub read : All (IsDirectory (told_of files path)) path.mounts
+  pub one_each : length filters ≡ length path.folders
+  pub filtered : All (IsFiltered filters) path.mounts
 
 -- the mounts, and what the folders tell, are as before
 pub record SamePath {F : Type 0} (files : F → Option (List File)) (before after : PathState F) : Type 0 where

@@ -2,11 +2,12 @@
 ghost use Rattle.std.specs.Prelude.{◌≡◌, ◌<◌, ◌≤◌, ◌+◌, ◌*◌, ◌^◌, ℕ, List, length, map, option_map, slice_get};
 ghost use Rattle.std.specs.Prelude.{◌∷◌, [], All, IfOk, IfErr, IfSome, OnOk};
 ghost use Rattle.std.specs.Option.{option_flatten};
-ghost use Rattle.search_paths.specs.Answers.{ref_of, first_of, HasFile, IsFileRef, IsFilePart, AsksInOrder, folders_among, folder_in};
+ghost use Rattle.pack_files.specs.Hashes.{hash_of};
+ghost use Rattle.search_paths.specs.Answers.{ref_of, IsFirstOf, HasFile, IsFileRef, IsFilePart, AsksInOrder, folders_among, folder_in};
 ghost use Rattle.search_paths.specs.Counts.{NoneFalls, HasFolderCause, CallsOnce};
-ghost use Rattle.search_paths.specs.Kept.{folder_of, row_of, mount_of, IsDirectory};
+ghost use Rattle.search_paths.specs.Kept.{folder_of, row_of, mount_of, IsDirectory, IsFiltered};
 ghost use Rattle.search_paths.specs.Mounts.{file_in, packed_file};
-ghost use Rattle.search_paths.specs.Path.{all_some, rows_of, mounts_of, mount_at, counts_of, SamePath};
+ghost use Rattle.search_paths.specs.Path.{rows_of, told_mounts, mount_at, counts_of, SamePath};
 
 use crate::answers::{FileRef, FolderFault, MountRow};
 use crate::folders::{length_in, read_in};
@@ -15,15 +16,15 @@ use crate::names::name_of_pack;
 use crate::path::Paths;
 use base_fields::GameName;
 use outside_io::Folder;
-use pack_files::Pack;
+use pack_files::{Filter, Pack, name_hash};
 
 impl<F: Folder> Paths<F> {
-    /// The file of the first mount that has the name, or `None` exactly where no mount has it. A folder's fault comes only
+    /// The file of the first mount that has the name, or `None` exactly where no mount has it. A contract tells which where the
+    /// mounts up to that one are told, or all are. A folder's fault comes only
     /// where it is counted. The mounts are asked from the front of the path on, up to the one that has the file: a folder is
     /// called once, and a pack's directory is looked up without a call.
     pub fn find(&mut self, name: &GameName) -> Result<Option<FileRef>, FolderFault>
-        ensures first { IfOk result (λ file.
-            IfSome (mounts_of F.files self.old) (λ mounts. file ≡ first_of name.now mounts)) }
+        ensures first { IfOk result (λ file. IsFirstOf name.now (told_mounts F.files self.old) file) }
         ensures there { IfOk result (λ file.
             IfSome file (λ found. HasFile name.now found (mount_at F.files found.mount self.old))) }
         ensures sized { IfOk result (λ file. IfSome file (IsFileRef (length (rows_of self.old)))) }
@@ -32,7 +33,7 @@ impl<F: Folder> Paths<F> {
         ensures calls { NoneFalls (counts_of F.folder_calls self.old) (counts_of F.folder_calls self.new) }
         ensures asked { AsksInOrder F.folder_calls (rows_of self.old) self.old.folders self.new.folders result }
     {
-        find_first(&mut self.folders, &self.mounts, name.bytes())
+        find_first(&mut self.folders, &self.mounts, &self.filters, name.bytes())
     }
 
     /// Fills `into` with the bytes from `at` on of the file that was found under this name. After an error `into` may hold
@@ -65,13 +66,15 @@ impl<F: Folder> Paths<F> {
 fn find_first<F: Folder>(
     folders: &mut [F],
     mounts: &[Mounted],
+    filters: &[Filter],
     name: &[u8],
 ) -> Result<Option<FileRef>, FolderFault>
     requires few { length mounts.now ≤ 33 * 65536 }
     requires inside { All (λ mounted. folder_of mounted < length folders.old) mounts.now }
     requires read { All (IsDirectory (map F.files folders.old)) mounts.now }
-    ensures first { IfOk result (λ file. IfSome (all_some (map (mount_of (map F.files folders.old)) mounts.now)) (λ all.
-        file ≡ first_of name.now all)) }
+    requires filtered { All (IsFiltered filters.now) mounts.now }
+    ensures first { IfOk result (λ file.
+        IsFirstOf name.now (map (mount_of (map F.files folders.old)) mounts.now) file) }
     ensures there { IfOk result (λ file. IfSome file (λ found. HasFile name.now found
         (option_flatten (slice_get (map (mount_of (map F.files folders.old)) mounts.now) found.mount)))) }
     ensures sized { IfOk result (λ file. IfSome file (IsFileRef (length mounts.now))) }
@@ -80,8 +83,9 @@ fn find_first<F: Folder>(
     ensures calls { NoneFalls (map F.folder_calls folders.old) (map F.folder_calls folders.new) }
     ensures asked { AsksInOrder F.folder_calls (map row_of mounts.now) folders.old folders.new result }
 {
+    let hash = name_hash(name);
     for number in 0..mounts.len() {
-        match find_in(folders, &mounts[number], number as u32, name) {
+        match find_in(folders, &mounts[number], filters, number as u32, name, hash) {
             Ok(Some(file)) => return Ok(Some(file)),
             Ok(None) => {}
             Err(fault) => return Err(fault),
@@ -90,15 +94,19 @@ fn find_first<F: Folder>(
     Ok(None)
 }
 
-// The file of this name in the mount of this number.
+// The file of this name, which has this hash, in the mount of this number.
 fn find_in<F: Folder>(
     folders: &mut [F],
     mounted: &Mounted,
+    filters: &[Filter],
     number: u32,
     name: &[u8],
+    hash: u32,
 ) -> Result<Option<FileRef>, FolderFault>
+    requires hash { hash ≡ hash_of name.now }
     requires inside { folder_of mounted.now < length folders.old }
     requires read { IsDirectory (map F.files folders.old) mounted.now }
+    requires filtered { IsFiltered filters.now mounted.now }
     ensures found { IfOk result (λ file. IfSome (mount_of (map F.files folders.old) mounted.now) (λ mount.
         file ≡ option_map (ref_of number) (file_in name.now mount.files))) }
     ensures number { IfOk result (λ file. IfSome file (λ found. found.mount ≡ number)) }
@@ -120,7 +128,17 @@ fn find_in<F: Folder>(
             Ok(None) => Ok(None),
             Err(fault) => Err(fault),
         },
-        Mounted::Pack { directory, .. } => Ok(find_packed(directory, number, name)),
+        Mounted::Pack {
+            folder,
+            pack,
+            directory,
+        } => {
+            if filters[*folder as usize].may_have(*pack, hash) {
+                Ok(find_packed(directory, number, name))
+            } else {
+                Ok(None)
+            }
+        }
     }
 }
 

@@ -5,7 +5,7 @@ ghost use Rattle.pack_files.specs.Packs.{pack_of};
 ghost use Rattle.search_paths.specs.Answers.{AddsRows, IsCaused, IsMounted, IsOfFolder};
 ghost use Rattle.search_paths.specs.Kept.{row_of};
 ghost use Rattle.search_paths.specs.Mounts.{own_mounts, pack_name};
-ghost use Rattle.search_paths.specs.Own.{mount_in, IsOwn, IsFound};
+ghost use Rattle.search_paths.specs.Own.{mount_in, IsOwn, IsIn, IsFound};
 ghost use Rattle.search_paths.specs.Path.{rows_of, told_mounts, AddsFolder};
 
 use crate::answers::MountError;
@@ -13,7 +13,7 @@ use crate::mounted::Mounted;
 use crate::names::name_of_pack;
 use crate::path::Paths;
 use outside_io::Folder;
-use pack_files::{Pack, PackError, read_pack};
+use pack_files::{Filter, Pack, PackError, read_pack};
 use std::alloc::Global;
 
 // How many packs of a folder are mounted at most.
@@ -37,10 +37,17 @@ impl<F: Folder> Paths<F> {
             ⊎ AddsFolder F.files F.folder_faults F.folder_calls folder self.old self.new result }
     {
         let mut folder = folder;
-        let read = read_mounts(alloc, &mut folder, self.folders.len() as u32);
+        let Ok(mut filter) = Filter::create(alloc) else {
+            return Err(MountError::OutOfMemory);
+        };
+        let Ok(()) = self.filters.reserve(1) else {
+            return Err(MountError::OutOfMemory);
+        };
+        let read = read_mounts(alloc, &mut folder, self.folders.len() as u32, &mut filter);
         let Ok(()) = self.folders.push(folder) else {
             return Err(MountError::OutOfMemory);
         };
+        self.filters.push(filter).unwrap();
         match read {
             Ok(own) => put_in_front(&mut self.mounts, own),
             Err(error) => Err(error),
@@ -63,11 +70,13 @@ fn put_in_front(mounts: &mut Vec<Mounted>, own: Vec<Mounted>) -> Result<(), Moun
     Ok(())
 }
 
-// The mounts of the folder of this number in the order of mounting: the folder itself, and then its packs.
+// The mounts of the folder of this number in the order of mounting: the folder itself, and then its packs, whose names are
+// added to the filter.
 fn read_mounts<F: Folder>(
     alloc: Global,
     folder: &mut F,
     number: u32,
+    filter: &mut Filter,
 ) -> Result<Vec<Mounted>, MountError>
     ensures mounted { IfSome (F.files folder.old) (λ files. IfOk result (λ own.
         IsOkAnd (own_mounts number files) (λ mounts. map (mount_in files) (reverse own.items) ≡ map Some mounts))) }
@@ -75,6 +84,7 @@ fn read_mounts<F: Folder>(
         IsMounted (own_mounts number files) [] [] (Err error))) }
     ensures rows { IfOk result (λ own. AddsRows number [] (map row_of (reverse own.items))) }
     ensures own { IfOk result (λ own. All (IsOwn number (F.files folder.old)) own.items) }
+    ensures filtered { IfOk result (λ own. All (IsIn filter.new) own.items) }
     ensures error { IfErr result (IsOfFolder number) }
     ensures same { F.files folder.new ≡ F.files folder.old }
     ensures cause { IfErr result (λ error. IsCaused (F.folder_faults folder.old) (F.folder_faults folder.new) (Err error)) }
@@ -91,6 +101,7 @@ fn read_mounts<F: Folder>(
             Ok(None) => return Ok(mounts),
             Err(error) => return Err(error),
         };
+        filter.add_all(pack, &directory);
         let mounted = Mounted::Pack {
             folder: number,
             pack,

@@ -5,6 +5,7 @@ ghost use Rattle.search_paths.specs.Path.{rows_of, mounts_of};
 use crate::answers::MountRow;
 use crate::mounted::Mounted;
 use outside_io::Folder;
+use pack_files::Filter;
 use std::alloc::{AllocError, Global};
 use std::marker::Model;
 
@@ -15,6 +16,8 @@ pub struct Paths<F: Folder = Box<dyn Folder>> {
     pub(crate) folders: Vec<F>,
     // from the path's front on
     pub(crate) mounts: Vec<Mounted>,
+    // for each folder which of its packs may have a name
+    pub(crate) filters: Vec<Filter>,
 }
 
 impl<F: Folder> Model for Paths<F> {
@@ -24,7 +27,7 @@ impl<F: Folder> Model for Paths<F> {
 
     ghost view = { λ p. record { folders = p.folders.items; mounts = p.mounts.items } };
 
-    ghost invariant = { λ p. IsPath F.files (record { folders = p.folders.items; mounts = p.mounts.items }) };
+    ghost invariant = { λ p. IsPath F.files p.filters.items (record { folders = p.folders.items; mounts = p.mounts.items }) };
 }
 
 impl<F: Folder> Paths<F> {
@@ -35,6 +38,7 @@ impl<F: Folder> Paths<F> {
         Ok(Paths {
             folders: Vec::new(alloc),
             mounts: Vec::new(alloc),
+            filters: Vec::new(alloc),
         })
     }
 

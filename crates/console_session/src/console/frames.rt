@@ -1,23 +1,20 @@
 // Commands taken from the buffer, frames of them, and input lines.
-ghost use Rattle.std.specs.Prelude.{◌≡◌, ◌<◌, ◌≤◌, ◌++◌, length, IfSome, if◌then◌else◌};
-ghost use Rattle.cmd_buffer.specs.Buffer.{text_of_command};
+ghost use Rattle.std.specs.Prelude.{◌≡◌, ◌<◌, ◌++◌, length, IfSome, if◌then◌else◌};
+ghost use Rattle.cmd_buffer.specs.Buffer.{taken_text};
 ghost use Rattle.mem_model.specs.Laid.{IsText};
-ghost use Rattle.console_session.specs.States.{Follows, HasCauses};
 ghost use Rattle.console_session.specs.Holding.{Holds, AreShort};
-ghost use Rattle.search_paths.specs.Path.{counts_of};
-ghost use Rattle.console_session.specs.Commands.{by_verb, by_words, by_text, command, fits_in};
-ghost use Rattle.console_session.specs.Sessions.{path_of, state_of};
-ghost use Rattle.console_session.specs.Frames.{frame, line, overflowed, input, ending, Runs};
+ghost use Rattle.console_session.specs.Serving.{seen, Does, RunsAs};
+ghost use Rattle.console_session.specs.Commands.{by_verb, by_words, by_text, command, fits_in, name_in, number_in};
+ghost use Rattle.console_session.specs.Frames.{frame, line, overflowed, input, ending};
 
 use crate::console::Console;
 use crate::ends::{Fault, Next};
-use crate::replies::{put_runaway, reply};
+use crate::replies::{put_runaway, put_too_long};
 use crate::verbs::{Verb, find_verb};
-use base_fields::before_zero;
-use cmd_buffer::{CmdBuffer, Command, Words, tokenize};
+use base_fields::{GameName, before_zero, decimal, game_name};
+use cmd_buffer::{CmdBuffer, CommandText, Taken, Words, tokenize};
 use mem_model::Store;
 use outside_io::{Folder, Sink};
-use reply_pieces::Piece;
 
 // How many bytes the buffer holds.
 const SPACE: usize = 8191;
@@ -33,22 +30,19 @@ impl<M: Store, F: Folder> Console<M, F> {
         words: &Words<'_>,
         out: &mut O,
     ) -> Result<Next, Fault>
-        requires holds { Holds (state_of M.state self.old) }
+        requires holds { Holds (seen M.Store F.Folder self.old) }
         requires short { AreShort words.now }
-        ensures told { IfSome (path_of F.files self.old.paths).mounts (λ mounts. Follows (by_verb mounts (state_of M.state self.old) words.now verb) result (state_of M.state self.new) (O.got out.old) (O.got out.new)) }
-        ensures path { path_of F.files self.new.paths ≡ path_of F.files self.old.paths }
-        ensures holds { Holds (state_of M.state self.new) }
-        ensures causes { HasCauses M.frugal (counts_of F.folder_faults self.old.paths) (counts_of F.folder_faults self.new.paths) (O.sink_faults out.old) (O.sink_faults out.new) result }
+        ensures { Does M.Store F.Folder O.Sink (by_verb verb words.now) self.old self.new out.old out.new result }
     {
         match verb {
             None => self.run_name(words, out),
-            Some(Verb::File) => self.file(words, out),
+            Some(Verb::File) => self.file(name_in(words, 1), out),
             Some(Verb::Echo) => self.echo(words, out),
-            Some(Verb::Exec) => self.exec(words, out),
+            Some(Verb::Exec) => self.exec(name_in(words, 1), out),
             Some(Verb::Wait) => Ok(Next::Waits),
             Some(Verb::Quit) => Ok(Next::Quits),
-            Some(Verb::Reserve) => self.reserve(words, out),
-            Some(Verb::Video) => self.video(words, out),
+            Some(Verb::Reserve) => self.reserve(number_in(words, 1), name_in(words, 2), out),
+            Some(Verb::Video) => self.video(number_in(words, 1), name_in(words, 2), out),
             Some(Verb::Level) => self.set_level(out),
             Some(Verb::Report) => self.report_blocks(out),
             Some(Verb::Alias) => self.alias(words, out),
@@ -57,55 +51,54 @@ impl<M: Store, F: Folder> Console<M, F> {
     }
 
     fn run_words<O: Sink>(&mut self, words: &Words<'_>, out: &mut O) -> Result<Next, Fault>
-        requires holds { Holds (state_of M.state self.old) }
+        requires holds { Holds (seen M.Store F.Folder self.old) }
         requires short { AreShort words.now }
-        ensures told { IfSome (path_of F.files self.old.paths).mounts (λ mounts. Follows (by_words mounts (state_of M.state self.old) words.now) result (state_of M.state self.new) (O.got out.old) (O.got out.new)) }
-        ensures path { path_of F.files self.new.paths ≡ path_of F.files self.old.paths }
-        ensures holds { Holds (state_of M.state self.new) }
-        ensures causes { HasCauses M.frugal (counts_of F.folder_faults self.old.paths) (counts_of F.folder_faults self.new.paths) (O.sink_faults out.old) (O.sink_faults out.new) result }
+        ensures { Does M.Store F.Folder O.Sink (by_words words.now) self.old self.new out.old out.new result }
     {
-        if words.count() == 0 {
+        let Some(word) = words.first() else {
             return Ok(Next::Goes);
-        }
-        self.run_verb(find_verb(words.word(0)), words, out)
+        };
+        self.run_verb(find_verb(word), words, out)
     }
 
-    fn run_taken<O: Sink>(&mut self, taken: &Command, out: &mut O) -> Result<Next, Fault>
-        requires holds { Holds (state_of M.state self.old) }
-        requires text { IfSome (text_of_command taken.now) (λ text. IsText text) }
-        ensures told { IfSome (path_of F.files self.old.paths).mounts (λ mounts. Follows (by_text mounts (state_of M.state self.old) (text_of_command taken.now)) result (state_of M.state self.new) (O.got out.old) (O.got out.new)) }
-        ensures path { path_of F.files self.new.paths ≡ path_of F.files self.old.paths }
-        ensures holds { Holds (state_of M.state self.new) }
-        ensures causes { HasCauses M.frugal (counts_of F.folder_faults self.old.paths) (counts_of F.folder_faults self.new.paths) (O.sink_faults out.old) (O.sink_faults out.new) result }
+    fn run_taken<O: Sink>(
+        &mut self,
+        taken: Taken,
+        text: &CommandText,
+        out: &mut O,
+    ) -> Result<Next, Fault>
+        requires holds { Holds (seen M.Store F.Folder self.old) }
+        requires text { IfSome (taken_text text.now.items taken) (λ text. IsText text) }
+        ensures { Does M.Store F.Folder O.Sink (by_text (taken_text text.now.items taken))
+            self.old self.new out.old out.new result }
     {
         match taken {
-            Command::TooLong => reply(out, Next::Goes, &[Piece::Text(b"line too long\n")]),
-            Command::Text(text) => self.run_words(&tokenize(text), out),
+            Taken::TooLong => put_too_long(out),
+            Taken::Text => self.run_words(&tokenize(text), out),
         }
     }
 
-    // Takes a command and runs it.
-    fn run_command<O: Sink>(&mut self, out: &mut O) -> Result<Next, Fault>
+    // Takes a command into `text` and runs it.
+    fn run_command<O: Sink>(&mut self, text: &mut CommandText, out: &mut O) -> Result<Next, Fault>
         requires some { 0 < length self.old.buffer }
-        requires holds { Holds (state_of M.state self.old) }
-        ensures told { IfSome (path_of F.files self.old.paths).mounts (λ mounts. Follows (command mounts (state_of M.state self.old)) result (state_of M.state self.new) (O.got out.old) (O.got out.new)) }
-        ensures path { path_of F.files self.new.paths ≡ path_of F.files self.old.paths }
-        ensures holds { Holds (state_of M.state self.new) }
-        ensures causes { HasCauses M.frugal (counts_of F.folder_faults self.old.paths) (counts_of F.folder_faults self.new.paths) (O.sink_faults out.old) (O.sink_faults out.new) result }
+        requires holds { Holds (seen M.Store F.Folder self.old) }
+        ensures { Does M.Store F.Folder O.Sink command self.old self.new out.old out.new result }
     {
-        match self.buffer.take() {
-            Some(taken) => self.run_taken(&taken, out),
+        match self.buffer.take(text) {
+            Some(taken) => self.run_taken(taken, text, out),
             None => Ok(Next::Goes),
         }
     }
 
-    // Takes commands until the buffer is empty, or a command ends the frame. True where `quit` was executed.
-    pub fn run_frame<O: Sink>(&mut self, through: bool, out: &mut O) -> Result<bool, Fault>
-        requires holds { Holds (state_of M.state self.old) }
-        ensures told { IfSome (path_of F.files self.old.paths).mounts (λ mounts. Runs (frame through mounts 4096 (state_of M.state self.old)) result (state_of M.state self.new) (O.got out.old) (O.got out.new)) }
-        ensures path { path_of F.files self.new.paths ≡ path_of F.files self.old.paths }
-        ensures holds { Holds (state_of M.state self.new) }
-        ensures causes { HasCauses M.frugal (counts_of F.folder_faults self.old.paths) (counts_of F.folder_faults self.new.paths) (O.sink_faults out.old) (O.sink_faults out.new) result }
+    // Takes commands, each into `text`, until the buffer is empty, or a command ends the frame. True where `quit` was executed.
+    pub fn run_frame<O: Sink>(
+        &mut self,
+        through: bool,
+        text: &mut CommandText,
+        out: &mut O,
+    ) -> Result<bool, Fault>
+        requires holds { Holds (seen M.Store F.Folder self.old) }
+        ensures { RunsAs M.Store F.Folder O.Sink (frame through 4096) self.old self.new out.old out.new result }
     {
         let mut budget = MOST;
         'commands: while 0 < self.buffer.used() {
@@ -114,7 +107,7 @@ impl<M: Store, F: Folder> Console<M, F> {
                 return put_runaway(out);
             }
             budget -= 1;
-            let next = match self.run_command(out) {
+            let next = match self.run_command(text, out) {
                 Ok(next) => next,
                 Err(fault) => return Err(fault),
             };
@@ -126,39 +119,52 @@ impl<M: Store, F: Folder> Console<M, F> {
     }
 
     // Says that there was no room for a line, and goes on.
-    fn run_overflow<O: Sink>(&mut self, out: &mut O) -> Result<bool, Fault>
-        requires holds { Holds (state_of M.state self.old) }
-        ensures told { IfSome (path_of F.files self.old.paths).mounts (λ mounts. Runs (overflowed mounts (state_of M.state self.old)) result (state_of M.state self.new) (O.got out.old) (O.got out.new)) }
-        ensures path { path_of F.files self.new.paths ≡ path_of F.files self.old.paths }
-        ensures holds { Holds (state_of M.state self.new) }
-        ensures causes { HasCauses M.frugal (counts_of F.folder_faults self.old.paths) (counts_of F.folder_faults self.new.paths) (O.sink_faults out.old) (O.sink_faults out.new) result }
+    fn run_overflow<O: Sink>(&mut self, text: &mut CommandText, out: &mut O) -> Result<bool, Fault>
+        requires holds { Holds (seen M.Store F.Folder self.old) }
+        ensures { RunsAs M.Store F.Folder O.Sink overflowed self.old self.new out.old out.new result }
     {
         if let Err(_) = out.put(b"overflow\n") {
             return Err(Fault::Write);
         }
-        self.run_frame(false, out)
+        self.run_frame(false, text, out)
     }
 
-    pub fn run_line<O: Sink>(&mut self, text: &[u8], out: &mut O) -> Result<bool, Fault>
-        requires holds { Holds (state_of M.state self.old) }
-        ensures told { IfSome (path_of F.files self.old.paths).mounts (λ mounts. Runs (line mounts (state_of M.state self.old) text.now) result (state_of M.state self.new) (O.got out.old) (O.got out.new)) }
-        ensures path { path_of F.files self.new.paths ≡ path_of F.files self.old.paths }
-        ensures holds { Holds (state_of M.state self.new) }
-        ensures causes { HasCauses M.frugal (counts_of F.folder_faults self.old.paths) (counts_of F.folder_faults self.new.paths) (O.sink_faults out.old) (O.sink_faults out.new) result }
+    pub fn run_line<O: Sink>(
+        &mut self,
+        typed: &[u8],
+        text: &mut CommandText,
+        out: &mut O,
+    ) -> Result<bool, Fault>
+        requires holds { Holds (seen M.Store F.Folder self.old) }
+        ensures { RunsAs M.Store F.Folder O.Sink (line typed.now) self.old self.new out.old out.new result }
     {
-        if add_line(&mut self.buffer, text) {
-            self.run_frame(false, out)
+        if add_line(&mut self.buffer, typed) {
+            self.run_frame(false, text, out)
         } else {
-            self.run_overflow(out)
+            self.run_overflow(text, out)
         }
     }
+}
+
+// The lawful name that the word of this number is.
+fn name_in(words: &Words<'_>, number: usize) -> Option<GameName>
+    ensures { result ≡ name_in number words.now }
+{
+    game_name(words.word(number)).ok()
+}
+
+fn number_in(words: &Words<'_>, number: usize) -> Option<u32>
+    ensures { result ≡ number_in number words.now }
+{
+    decimal(words.word(number)).ok()
 }
 
 // Adds an input line to the buffer, where it fits.
 fn add_line(buffer: &mut CmdBuffer, text: &[u8]) -> bool
     requires text { IsText buffer.old }
     ensures fits { result ≡ fits_in (input text.now) buffer.old }
-    ensures buffer { buffer.new ≡ (if fits_in (input text.now) buffer.old then buffer.old ++ input text.now else buffer.old) }
+    ensures buffer { buffer.new
+        ≡ (if fits_in (input text.now) buffer.old then buffer.old ++ input text.now else buffer.old) }
     ensures text { IsText buffer.new }
 {
     let text = before_zero(text);

@@ -1,21 +1,19 @@
 // The commands on aliases and cvars, and what a first word means that is no command.
-ghost use Rattle.std.specs.Prelude.{◌≡◌, ◌++◌, IfSome, drop, if◌then◌else◌};
+ghost use Rattle.std.specs.Prelude.{◌≡◌, ◌++◌, drop, if◌then◌else◌};
 ghost use Rattle.mem_model.specs.Laid.{IsText};
-ghost use Rattle.console_session.specs.States.{Follows, HasCauses};
 ghost use Rattle.console_session.specs.Holding.{Holds, AreShort};
-ghost use Rattle.search_paths.specs.Path.{counts_of};
-ghost use Rattle.console_session.specs.Commands.{list_aliases, make_alias, answer_alias, cvar_was_set, by_cvar, by_name, unknown, unknown_word, word_at, spaced, fits_in};
-ghost use Rattle.cvar_table.specs.Cvars.{set_cvar, cvar_value};
-ghost use Rattle.console_session.specs.Sessions.{path_of, state_of};
+ghost use Rattle.console_session.specs.Serving.{seen, Does};
+ghost use Rattle.console_session.specs.Commands.{make_alias, answer_alias, make_cvar, cvar_or_unknown, by_name, spaced, fits_in};
 
 use crate::console::Console;
 use crate::ends::{Fault, Next};
-use crate::replies::{put_aliases, put_cvar, put_full, put_inserted, put_long_name, reply};
+use crate::replies::{
+    put_alias_set, put_aliases, put_cvar, put_cvar_set, put_inserted, put_unknown,
+};
 use arrayvec::ArrayVec;
-use cmd_buffer::{AliasError, CmdBuffer, Words};
-use mem_model::{Store, ZoneError};
+use cmd_buffer::{CmdBuffer, Words};
+use mem_model::Store;
 use outside_io::{Folder, Sink};
-use reply_pieces::Piece;
 
 // A value has the words of a command, which have 1023 bytes at most, a space for each of 80, and a newline.
 const VALUE: usize = 1104;
@@ -26,9 +24,11 @@ fn value_of(words: &Words<'_>) -> ArrayVec<u8, VALUE>
     ensures { result.items ≡ spaced (drop 2 words.now) }
 {
     let mut value = ArrayVec::new();
-    for number in 2..words.count() {
-        value.try_extend_from_slice(words.word(number)).unwrap();
+    let mut left = words.rest().rest();
+    'words: while let Some(word) = left.first() {
+        value.try_extend_from_slice(word).unwrap();
         value.push(b' ');
+        left = left.rest();
     }
     value.push(b'\n');
     value
@@ -45,84 +45,52 @@ pub(super) fn insert(buffer: &mut CmdBuffer, text: &[u8]) -> bool
 }
 
 impl<M: Store, F: Folder> Console<M, F> {
-    // Shows the aliases.
-    fn list_aliases<O: Sink>(&mut self, out: &mut O) -> Result<Next, Fault>
-        requires holds { Holds (state_of M.state self.old) }
-        ensures told { IfSome (path_of F.files self.old.paths).mounts (λ mounts. Follows (list_aliases (state_of M.state self.old)) result (state_of M.state self.new) (O.got out.old) (O.got out.new)) }
-        ensures path { path_of F.files self.new.paths ≡ path_of F.files self.old.paths }
-        ensures holds { Holds (state_of M.state self.new) }
-        ensures causes { HasCauses M.frugal (counts_of F.folder_faults self.old.paths) (counts_of F.folder_faults self.new.paths) (O.sink_faults out.old) (O.sink_faults out.new) result }
-    {
-        put_aliases(&self.store, &self.aliases, out)
-    }
-
     // Sets the alias of the second word to those that follow it.
     fn make_alias<O: Sink>(&mut self, words: &Words<'_>, out: &mut O) -> Result<Next, Fault>
-        requires holds { Holds (state_of M.state self.old) }
+        requires holds { Holds (seen M.Store F.Folder self.old) }
         requires short { AreShort words.now }
-        ensures told { IfSome (path_of F.files self.old.paths).mounts (λ mounts. Follows (make_alias (state_of M.state self.old) words.now) result (state_of M.state self.new) (O.got out.old) (O.got out.new)) }
-        ensures path { path_of F.files self.new.paths ≡ path_of F.files self.old.paths }
-        ensures holds { Holds (state_of M.state self.new) }
-        ensures causes { HasCauses M.frugal (counts_of F.folder_faults self.old.paths) (counts_of F.folder_faults self.new.paths) (O.sink_faults out.old) (O.sink_faults out.new) result }
+        ensures { Does M.Store F.Folder O.Sink (make_alias words.now) self.old self.new out.old out.new result }
     {
         let value = value_of(words);
-        match self
+        let set = self
             .aliases
-            .set(&mut self.store, words.word(1), value.as_slice())
-        {
-            Ok(()) => Ok(Next::Goes),
-            Err(AliasError::LongName) => put_long_name(out),
-            Err(AliasError::Zone(ZoneError::Full { asked })) => put_full(out, asked),
-            Err(AliasError::Zone(ZoneError::OutOfMemory)) => Err(Fault::Memory),
-        }
+            .set(&mut self.store, words.word(1), value.as_slice());
+        put_alias_set(out, set)
     }
 
     pub(super) fn alias<O: Sink>(&mut self, words: &Words<'_>, out: &mut O) -> Result<Next, Fault>
-        requires holds { Holds (state_of M.state self.old) }
+        requires holds { Holds (seen M.Store F.Folder self.old) }
         requires short { AreShort words.now }
-        ensures told { IfSome (path_of F.files self.old.paths).mounts (λ mounts. Follows (answer_alias (state_of M.state self.old) words.now) result (state_of M.state self.new) (O.got out.old) (O.got out.new)) }
-        ensures path { path_of F.files self.new.paths ≡ path_of F.files self.old.paths }
-        ensures holds { Holds (state_of M.state self.new) }
-        ensures causes { HasCauses M.frugal (counts_of F.folder_faults self.old.paths) (counts_of F.folder_faults self.new.paths) (O.sink_faults out.old) (O.sink_faults out.new) result }
+        ensures { Does M.Store F.Folder O.Sink (answer_alias words.now) self.old self.new out.old out.new result }
     {
-        if words.count() == 1 {
-            return self.list_aliases(out);
+        if words.is_one() {
+            return put_aliases(&self.store, &self.aliases, out);
         }
         self.make_alias(words, out)
     }
 
     // Sets the cvar of the first word to the second.
-    fn set_cvar<O: Sink>(&mut self, words: &Words<'_>, out: &mut O) -> Result<Next, Fault>
-        requires holds { Holds (state_of M.state self.old) }
+    fn make_cvar<O: Sink>(&mut self, words: &Words<'_>, out: &mut O) -> Result<Next, Fault>
+        requires holds { Holds (seen M.Store F.Folder self.old) }
         requires short { AreShort words.now }
-        ensures told { IfSome (path_of F.files self.old.paths).mounts (λ mounts. Follows (cvar_was_set (state_of M.state self.old) (set_cvar (M.state self.old.store) self.old.cvars (word_at 0 words.now) (word_at 1 words.now))) result (state_of M.state self.new) (O.got out.old) (O.got out.new)) }
-        ensures path { path_of F.files self.new.paths ≡ path_of F.files self.old.paths }
-        ensures holds { Holds (state_of M.state self.new) }
-        ensures causes { HasCauses M.frugal (counts_of F.folder_faults self.old.paths) (counts_of F.folder_faults self.new.paths) (O.sink_faults out.old) (O.sink_faults out.new) result }
+        ensures { Does M.Store F.Folder O.Sink (make_cvar words.now) self.old self.new out.old out.new result }
     {
-        match self
+        let set = self
             .cvars
-            .set(&mut self.store, words.word(0), words.word(1))
-        {
-            Ok(_) => Ok(Next::Goes),
-            Err(ZoneError::Full { asked }) => put_full(out, asked),
-            Err(ZoneError::OutOfMemory) => Err(Fault::Memory),
-        }
+            .set(&mut self.store, words.word(0), words.word(1));
+        put_cvar_set(out, set)
     }
 
     // Shows or sets the cvar of the first word.
     fn run_cvar<O: Sink>(&mut self, words: &Words<'_>, out: &mut O) -> Result<Next, Fault>
-        requires holds { Holds (state_of M.state self.old) }
+        requires holds { Holds (seen M.Store F.Folder self.old) }
         requires short { AreShort words.now }
-        ensures told { IfSome (path_of F.files self.old.paths).mounts (λ mounts. Follows (by_cvar (state_of M.state self.old) words.now (cvar_value (M.state self.old.store) self.old.cvars (word_at 0 words.now))) result (state_of M.state self.new) (O.got out.old) (O.got out.new)) }
-        ensures path { path_of F.files self.new.paths ≡ path_of F.files self.old.paths }
-        ensures holds { Holds (state_of M.state self.new) }
-        ensures causes { HasCauses M.frugal (counts_of F.folder_faults self.old.paths) (counts_of F.folder_faults self.new.paths) (O.sink_faults out.old) (O.sink_faults out.new) result }
+        ensures { Does M.Store F.Folder O.Sink (cvar_or_unknown words.now) self.old self.new out.old out.new result }
     {
         match self.cvars.get(&self.store, words.word(0)) {
-            None => self.unknown(words, out),
-            Some(value) if words.count() == 1 => put_cvar(out, words.word(0), value),
-            Some(_) => self.set_cvar(words, out),
+            None => put_unknown(out, words.word(0)),
+            Some(value) if words.is_one() => put_cvar(out, words.word(0), value),
+            Some(_) => self.make_cvar(words, out),
         }
     }
 
@@ -132,12 +100,9 @@ impl<M: Store, F: Folder> Console<M, F> {
         words: &Words<'_>,
         out: &mut O,
     ) -> Result<Next, Fault>
-        requires holds { Holds (state_of M.state self.old) }
+        requires holds { Holds (seen M.Store F.Folder self.old) }
         requires short { AreShort words.now }
-        ensures told { IfSome (path_of F.files self.old.paths).mounts (λ mounts. Follows (by_name (state_of M.state self.old) words.now) result (state_of M.state self.new) (O.got out.old) (O.got out.new)) }
-        ensures path { path_of F.files self.new.paths ≡ path_of F.files self.old.paths }
-        ensures holds { Holds (state_of M.state self.new) }
-        ensures causes { HasCauses M.frugal (counts_of F.folder_faults self.old.paths) (counts_of F.folder_faults self.new.paths) (O.sink_faults out.old) (O.sink_faults out.new) result }
+        ensures { Does M.Store F.Folder O.Sink (by_name words.now) self.old self.new out.old out.new result }
     {
         match self.aliases.find(&self.store, words.word(0)) {
             Some(value) => {
@@ -146,33 +111,5 @@ impl<M: Store, F: Folder> Console<M, F> {
             }
             None => self.run_cvar(words, out),
         }
-    }
-
-    fn unknown_word<O: Sink>(&mut self, word: &[u8], out: &mut O) -> Result<Next, Fault>
-        requires holds { Holds (state_of M.state self.old) }
-        ensures told { IfSome (path_of F.files self.old.paths).mounts (λ mounts. Follows (unknown_word (state_of M.state self.old) word.now) result (state_of M.state self.new) (O.got out.old) (O.got out.new)) }
-        ensures path { path_of F.files self.new.paths ≡ path_of F.files self.old.paths }
-        ensures holds { Holds (state_of M.state self.new) }
-        ensures causes { HasCauses M.frugal (counts_of F.folder_faults self.old.paths) (counts_of F.folder_faults self.new.paths) (O.sink_faults out.old) (O.sink_faults out.new) result }
-    {
-        reply(
-            out,
-            Next::Goes,
-            &[
-                Piece::Text(b"Unknown command \""),
-                Piece::Text(word),
-                Piece::Text(b"\"\n"),
-            ],
-        )
-    }
-
-    fn unknown<O: Sink>(&mut self, words: &Words<'_>, out: &mut O) -> Result<Next, Fault>
-        requires holds { Holds (state_of M.state self.old) }
-        ensures told { IfSome (path_of F.files self.old.paths).mounts (λ mounts. Follows (unknown (state_of M.state self.old) words.now) result (state_of M.state self.new) (O.got out.old) (O.got out.new)) }
-        ensures path { path_of F.files self.new.paths ≡ path_of F.files self.old.paths }
-        ensures holds { Holds (state_of M.state self.new) }
-        ensures causes { HasCauses M.frugal (counts_of F.folder_faults self.old.paths) (counts_of F.folder_faults self.new.paths) (O.sink_faults out.old) (O.sink_faults out.new) result }
-    {
-        self.unknown_word(words.word(0), out)
     }
 }

@@ -1,16 +1,14 @@
-use Rattle.std.proofs.Common.{◌≡◌, ◌+◌, ◌-◌, ◌≤◌, ◌++◌, ◌∙◌, ℕ, List, [], ◌∷◌, length, take, drop, min, Option, IfSome, Ok, Err, true, false, refl, sym, ap, subst, arith, length-append, length-take}
+use Rattle.std.proofs.Common.{◌≡◌, ◌+◌, ◌-◌, ◌≤◌, ◌++◌, ◌∙◌, ℕ, List, [], ◌∷◌, length, take, drop, min, Option, Ok, Err, true, false, refl, sym, ap, subst, arith, length-append, length-take}
 use Rattle.std.proofs.lemmas.List.{append-nil, take_all, take-append-le}
-use Rattle.search_paths.specs.Mounts.{Mount}
 use Rattle.outside_io.specs.Streams.{Took, TakesFront}
 use Rattle.outside_io.proofs.Puts.{adds_none}
 use Rattle.outside_io.proofs.Takes.{took_none}
 use Rattle.console_session.specs.States.{State}
-use Rattle.console_session.specs.Frames.{IsRun}
+use Rattle.console_session.specs.Frames.{Runs}
 use Rattle.console_core.specs.Runs.{run_lines, lines_of}
 use Rattle.console_core.specs.Reading.{limit, ReadsPast, HasRead}
 use Rattle.console_core.specs.declared.script.ReadEnd.{ReadEnd}
 use Rattle.console_core.specs.declared.script.ReadEnd.TheVariants.{AtEnd, Quit, Ended, Failed, TooLong}
-use Rattle.console_session.proofs.Following.{of_told, of_both, always}
 use Rattle.console_session.proofs.Causing.{counted_none, counted_of, counted_then}
 use Rattle.console_core.proofs.Scripts.{is_pending, piece_runs, piece_rest, took_more}
 use Rattle.console_core.proofs.script.run_script.Goals as goal
@@ -26,20 +24,20 @@ first_of : (taken : List ℕ) (byte : ℕ) → length taken ≡ limit → take l
 first_of taken byte size = take-append-le limit taken (byte ∷ []) (omega (arith, size)) ∙ take_all limit taken (omega (arith, size))
 
 -- what the read past the limit leaves
-past_read : (told : Option (List Mount)) (first after : State) (end : ReadEnd) (taken pending : List ℕ) (start mid now out_start out_now : Option (List ℕ)) → Took taken start mid → length taken ≡ limit → pending ≡ take 8192 (lines_of taken).rest
-    → IfSome told (λ mounts. IsRun (run_lines mounts first (lines_of taken).whole) false after out_start out_now) → ReadsPast end mid now → HasRead told first after end pending start now out_start out_now
-past_read told first after AtEnd taken pending start mid now out_start out_now so_far size kept run past =
+past_read : (first after : State) (end : ReadEnd) (taken pending : List ℕ) (start mid now out_start out_now : Option (List ℕ)) → Took taken start mid → length taken ≡ limit → pending ≡ take 8192 (lines_of taken).rest
+    → Runs (run_lines first (lines_of taken).whole) (Ok false) after out_start out_now → ReadsPast end mid now → HasRead first after end pending start now out_start out_now
+past_read first after AtEnd taken pending start mid now out_start out_now so_far size kept run past =
     record { taken = taken; took = took_nothing taken start mid now so_far past.0; ends = (omega (arith, size), past.1); keeps = kept; run = run }
-past_read told first after Quit taken pending start mid now out_start out_now so_far size kept run past = absurd past
-past_read told first after (Ended fault) taken pending start mid now out_start out_now so_far size kept run past = absurd past
-past_read told first after Failed taken pending start mid now out_start out_now so_far size kept run past =
+past_read first after Quit taken pending start mid now out_start out_now so_far size kept run past = absurd past
+past_read first after (Ended fault) taken pending start mid now out_start out_now so_far size kept run past = absurd past
+past_read first after Failed taken pending start mid now out_start out_now so_far size kept run past =
     record { taken = taken; took = took_nothing taken start mid now so_far past; ends = omega (arith, size); keeps = tt; run = run }
-past_read told first after TooLong taken pending start mid now out_start out_now so_far size kept run past = record {
+past_read first after TooLong taken pending start mid now out_start out_now so_far size kept run past = record {
   taken = taken ++ past.0 ∷ [];
   took = took_more taken (past.0 ∷ []) start mid now so_far past.1;
   ends = length-append taken (past.0 ∷ []) ∙ ap (λ (n : ℕ). n + 1) size;
   keeps = tt;
-  run = of_told told run (λ mounts ran. subst (λ t. IsRun (run_lines mounts first (lines_of t).whole) false after out_start out_now) (sym (first_of taken past.0 size)) ran);
+  run = subst (λ t. Runs (run_lines first (lines_of t).whole) (Ok false) after out_start out_now) (sym (first_of taken past.0 size)) run;
 }
 
 piece_fits : (taken into tail : List ℕ) (count left : ℕ) → length taken + left ≡ limit → count ≤ left → length (taken ++ take count (into ++ tail)) ≤ limit
@@ -58,7 +56,7 @@ read-init g c = record {
   taken = [];
   took = took_none _;
   size = refl;
-  told = always c.args.session.now.path.mounts (λ mounts. record { quit = refl; after = refl; put = adds_none _ });
+  told = record { quit = refl; after = refl; put = adds_none _ };
   rest = c.requires.empty;
   going = c.requires.going;
   path = refl;
@@ -80,8 +78,7 @@ returns-in-Ok-true-clause-read g c =
       took = took_more c.read.invariant.taken piece _ _ _ c.read.invariant.took (took_piece c.read-in-read.new.into (drop c.min-most.result c.read.piece) c.in-Ok.count _ _ c.in-Ok.ensures.within c.in-Ok.ensures.taken);
       ends = piece_fits c.read.invariant.taken c.read-in-read.new.into (drop c.min-most.result c.read.piece) c.in-Ok.count c.read.left c.read.invariant.size (read_fits c.read-in-read.new.into c.read.piece c.in-Ok.count c.min-most.result c.read.left c.in-Ok.ensures.within c.read-in-read.auto.into c.min-most.ensures);
       keeps = tt;
-      run = of_both c.args.session.now.path.mounts c.read.invariant.told (rw c.read.invariant.path at (rw c.in-Ok-true.field-0-test at c.in-Ok-true.ensures.told)) (λ mounts so_far quits.
-          piece_runs mounts c.args.session.now.state c.read.session.state c.feed.new.session.state c.read.invariant.taken piece c.read.pending.items (Ok true) _ _ _ so_far c.read.invariant.rest quits);
+      run = piece_runs c.args.session.now.state c.read.session.state c.feed.new.session.state c.read.invariant.taken piece c.read.pending.items (Ok true) _ _ _ c.read.invariant.told c.read.invariant.rest (rw c.in-Ok-true.field-0-test at c.in-Ok-true.ensures.runs.told);
     }
 
 pub returns-in-Err-clause-read : goal.returns-in-Err-clause-read
@@ -92,8 +89,7 @@ returns-in-Err-clause-read g c =
       took = took_more c.read.invariant.taken piece _ _ _ c.read.invariant.took (took_piece c.read-in-read.new.into (drop c.min-most.result c.read.piece) c.in-Ok.count _ _ c.in-Ok.ensures.within c.in-Ok.ensures.taken);
       ends = piece_fits c.read.invariant.taken c.read-in-read.new.into (drop c.min-most.result c.read.piece) c.in-Ok.count c.read.left c.read.invariant.size (read_fits c.read-in-read.new.into c.read.piece c.in-Ok.count c.min-most.result c.read.left c.in-Ok.ensures.within c.read-in-read.auto.into c.min-most.ensures);
       keeps = tt;
-      run = of_both c.args.session.now.path.mounts c.read.invariant.told (rw c.read.invariant.path at c.in-Err.ensures.told) (λ mounts so_far fails.
-          piece_runs mounts c.args.session.now.state c.read.session.state c.feed.new.session.state c.read.invariant.taken piece c.read.pending.items (Err c.in-Err.fault) _ _ _ so_far c.read.invariant.rest fails);
+      run = piece_runs c.args.session.now.state c.read.session.state c.feed.new.session.state c.read.invariant.taken piece c.read.pending.items (Err c.in-Err.fault) _ _ _ c.read.invariant.told c.read.invariant.rest c.in-Err.ensures.runs.told;
     }
 
 pub read-preserved : goal.read-preserved
@@ -103,15 +99,14 @@ read-preserved g c =
       taken = c.read.invariant.taken ++ piece;
       took = took_more c.read.invariant.taken piece _ _ _ c.read.invariant.took (took_piece c.read-in-read.new.into (drop c.min-most.result c.read.piece) c.in-Ok.count _ _ c.in-Ok.ensures.within c.in-Ok.ensures.taken);
       size = more_size c.read.invariant.taken c.read-in-read.new.into (drop c.min-most.result c.read.piece) c.in-Ok.count c.read.left c.read.invariant.size c.in-Ok.ensures.within (read_fits c.read-in-read.new.into c.read.piece c.in-Ok.count c.min-most.result c.read.left c.in-Ok.ensures.within c.read-in-read.auto.into c.min-most.ensures);
-      told = of_both c.args.session.now.path.mounts c.read.invariant.told (rw c.read.invariant.path at (rw c.in-Ok-false.field-0-test at c.in-Ok-false.ensures.told)) (λ mounts so_far goes.
-          piece_runs mounts c.args.session.now.state c.read.session.state c.feed.new.session.state c.read.invariant.taken piece c.read.pending.items (Ok false) _ _ _ so_far c.read.invariant.rest goes);
-      rest = piece_rest [] c.read.invariant.taken piece c.read.pending.items c.feed.new.pending.items c.args.session.now.state c.read.invariant.rest (c.in-Ok-false.ensures.rest (ap Ok c.in-Ok-false.field-0-test));
+      told = piece_runs c.args.session.now.state c.read.session.state c.feed.new.session.state c.read.invariant.taken piece c.read.pending.items (Ok false) _ _ _ c.read.invariant.told c.read.invariant.rest (rw c.in-Ok-false.field-0-test at c.in-Ok-false.ensures.runs.told);
+      rest = piece_rest c.read.invariant.taken piece c.read.pending.items c.feed.new.pending.items c.args.session.now.state c.read.invariant.rest (c.in-Ok-false.ensures.rest (ap Ok c.in-Ok-false.field-0-test));
       going = c.in-Ok-false.ensures.going (ap Ok c.in-Ok-false.field-0-test);
-      path = c.in-Ok-false.ensures.path ∙ c.read.invariant.path;
-      counted = counted_then _ _ _ _ _ _ c.read.invariant.counted (counted_of _ _ _ _ _ _ c.in-Ok-false.ensures.causes);
+      path = c.in-Ok-false.ensures.runs.path ∙ c.read.invariant.path;
+      counted = counted_then _ _ _ _ _ _ c.read.invariant.counted (counted_of _ _ _ _ _ _ c.in-Ok-false.ensures.runs.causes);
       script_counts = omega (arith, c.read.invariant.script_counts, c.in-Ok.ensures.cause.never_falls);
     }
 
 pub returns-clause-read : goal.returns-clause-read
 returns-clause-read g c =
-    past_read c.args.session.now.path.mounts c.args.session.now.state c.read.session.state c.read_past.result c.read.invariant.taken c.read.pending.items _ _ _ _ _ c.read.invariant.took (omega arith) c.read.invariant.rest c.read.invariant.told c.read_past.ensures.past
+    past_read c.args.session.now.state c.read.session.state c.read_past.result c.read.invariant.taken c.read.pending.items _ _ _ _ _ c.read.invariant.took (omega arith) c.read.invariant.rest c.read.invariant.told c.read_past.ensures.past

@@ -1,6 +1,6 @@
-use Rattle.std.proofs.Common.{◌≡◌, ◌+◌, ◌≤◌, ℕ, List, length, take, IfSome, false}
+use Rattle.std.proofs.Common.{◌≡◌, ◌+◌, ◌≤◌, ℕ, List, length, take, Ok, false}
 use Rattle.outside_io.specs.Streams.{Took}
-use Rattle.console_session.specs.Frames.{IsRun}
+use Rattle.console_session.specs.Frames.{Runs}
 use Rattle.console_core.specs.Runs.{run_lines, lines_of}
 use Rattle.console_core.specs.Reading.{limit}
 use Rattle.console_session.proofs.Causing.{Counted}
@@ -12,10 +12,10 @@ invariant-read g l =
       taken : List ℕ;
       took : Took taken (g.S.Source.rest l.initial.script) (g.S.Source.rest l.script);
       size : length taken + l.left ≡ limit;
-      told : IfSome l.initial.session.path.mounts (λ mounts. IsRun (run_lines mounts l.initial.session.state (lines_of taken).whole) false l.session.state (g.O.Sink.got l.initial.out) (g.O.Sink.got l.out));
+      told : Runs (run_lines l.initial.session.state (lines_of taken).whole) (Ok false) l.session.state (g.O.Sink.got l.initial.out) (g.O.Sink.got l.out);
       rest : l.pending.items ≡ take 8192 (lines_of taken).rest;
       going : l.session.ended ≡ false;
-      path : l.session.path ≡ l.initial.session.path;
+      path : l.session.state.path ≡ l.initial.session.state.path;
       counted : Counted l.initial.session.faults l.session.faults (g.O.Sink.sink_faults l.initial.out) (g.O.Sink.sink_faults l.out);
       script_counts : g.S.Source.source_faults l.initial.script ≤ g.S.Source.source_faults l.script;
     }

@@ -1,8 +1,8 @@
-use Rattle.std.proofs.Common.{inr, ap}
+use Rattle.std.proofs.Common.{inr}
 use Rattle.std.specs.Prelude.{map}
 use Rattle.search_paths.specs.Path.{all_some}
-use Rattle.console_session.specs.Sessions.{PathSeen}
-use Rattle.console_core.proofs.Faulting.{ends_on_path}
+use Rattle.console_core.specs.Ends.{told_state}
+use Rattle.console_core.proofs.Faulting.{ends_on_path, starts_on_path}
 use Rattle.console_core.proofs.top.run_folders.Goals as goal
 
 pub returns-in-Err-clause-too_small : goal.returns-in-Err-clause-too_small
@@ -10,5 +10,7 @@ returns-in-Err-clause-too_small g c = (λ is. absurd (c.in-Err.ensures.not_small
 
 pub returns-in-Ok-start-clause-ends : goal.returns-in-Ok-start-clause-ends
 returns-in-Ok-start-clause-ends g c =
-    inr (ends_on_path c.args.request _ _ _ _ (all_some (map g.F.Folder.files c.args.folders.items)) _ c.run_session.result c.in-Ok-mount_all.ensures.opened.mounts
-    (rw (ap (λ (p : PathSeen). p.mounts) c.in-Ok-start.ensures.path) at c.run_session.ensures.ends))
+    let opened = c.in-Ok-mount_all.ensures.opened in
+    let session = c.in-Ok-start.session in
+    let starts = starts_on_path g.F.Folder c.args.folders.items c.in-Ok-mount_all.paths c.args.request opened session.state (rw c.in-Ok.ensures.ok at c.in-Ok-start.ensures.state) in
+    inr (ends_on_path c.args.request _ _ _ _ (all_some (map g.F.Folder.files c.args.folders.items)) (told_state session.state) c.run_session.result starts c.run_session.ensures.ends)

@@ -1,47 +1,33 @@
-use Rattle.std.proofs.Common.{◌<◌, ◌≤◌, ◌+◌, ℕ, List, [], ◌∷◌, ◌++◌, length, get_or, drop, Option, Result, Ok, Err, ap, subst, arith, refl, sym, ◌∙◌}
-use Rattle.std.proofs.lemmas.List.{drop_more, drop_all, append-nil}
-use Rattle.outside_io.specs.Streams.{AddsFront}
-use Rattle.outside_io.proofs.Puts.{PutSoFar, one_put, front_put, all_put}
-use Rattle.reply_pieces.specs.Pieces.{HoldsBack}
-use Rattle.reply_pieces.proofs.Holding.{next_held, held_front}
-use Rattle.console_session.specs.States.{Replies}
+use Rattle.std.proofs.Common.{◌≡◌, ℕ, List, [], ◌∷◌, ◌++◌, drop, Option, Some, None, ap, subst, arith, refl}
+use Rattle.std.specs.Prelude.{slice_get}
+use Rattle.outside_io.proofs.Puts.{PutSoFar, nothing_put, one_put, front_put}
 use Rattle.console_session.specs.Commands.{spaced}
-use Rattle.console_session.specs.declared.ends.Next.{Next}
-use Rattle.console_session.specs.declared.ends.Next.TheVariants.{Goes}
-use Rattle.console_session.specs.declared.ends.Fault.{Fault}
+use Rattle.console_session.proofs.Putting.{puts_rest}
+use Rattle.console_session.proofs.Wording.{words_split, words_end}
 use Rattle.console_session.proofs.replies.put_echo.Goals as goal
 
-module _ (words : List (List ℕ)) (i : ℕ) (held : List ℕ) (start mid now : Option (List ℕ)) (so_far : PutSoFar (spaced (drop 1 words)) start (held ++ spaced (drop i words)) mid) where
-  here : i < length words → PutSoFar (spaced (drop 1 words)) start (held ++ ((get_or words i [] ++ 32 ∷ []) ++ spaced (drop (i + 1) words))) mid
-  here inside = subst (λ r. PutSoFar (spaced (drop 1 words)) start (held ++ r) mid) (ap spaced (drop_more words i [] inside)) so_far
+module _ (words left : List (List ℕ)) (start mid : Option (List ℕ)) (so_far : PutSoFar (spaced (drop 1 words)) start (spaced left) mid) where
+  here : (word : List ℕ) → Some word ≡ slice_get left 0 → PutSoFar (spaced (drop 1 words)) start ((word ++ 32 ∷ []) ++ spaced (drop 1 left)) mid
+  here word first = subst (λ r. PutSoFar (spaced (drop 1 words)) start r mid) (ap spaced (words_split left word first)) so_far
 
-  more : i < length words → (held2 : List ℕ) → HoldsBack (held ++ (get_or words i [] ++ 32 ∷ [])) held2 mid now → PutSoFar (spaced (drop 1 words)) start (held2 ++ spaced (drop (i + 1) words)) now
-  more inside held2 holds = next_held (spaced (drop 1 words)) held (get_or words i [] ++ 32 ∷ []) (spaced (drop (i + 1) words)) start mid now (here inside) held2 holds
+  last : None ≡ slice_get left 0 → PutSoFar (spaced (drop 1 words)) start ((10 ∷ []) ++ []) mid
+  last end = subst (λ r. PutSoFar (spaced (drop 1 words)) start r mid) (ap spaced (words_end left end)) so_far
 
-  cut : i < length words → AddsFront (held ++ (get_or words i [] ++ 32 ∷ [])) mid now → AddsFront (spaced (drop 1 words)) start now
-  cut inside part = held_front (spaced (drop 1 words)) held (get_or words i [] ++ 32 ∷ []) (spaced (drop (i + 1) words)) start mid now (here inside) part
+pub words-init : goal.words-init
+words-init g c = record { put = rw c.rest-left.ensures (nothing_put (spaced (drop 1 c.args.words.now)) _); faults = omega arith }
 
-  last : length words ≤ i → PutSoFar (spaced (drop 1 words)) start ((held ++ 10 ∷ []) ++ []) mid
-  last end = subst (λ r. PutSoFar (spaced (drop 1 words)) start r mid) (ap (λ l. held ++ l) (ap spaced (drop_all i words end)) ∙ sym (append-nil (held ++ 10 ∷ []))) so_far
+pub words-preserved : goal.words-preserved
+words-preserved g c = record {
+  put = rw c.rest-left-in-Some.ensures (one_put (spaced (drop 1 c.args.words.now)) _ _ _ _ _ (here c.args.words.now c.words.left _ _ c.words.invariant.put c.in-Some.word.now c.in-Some.ensures) c.in_default-put_all.ensures.added);
+  faults = omega arith;
+}
 
-  ended : length words ≤ i → (result : Result Next Fault) → Replies (held ++ 10 ∷ []) Goes result mid now → Replies (spaced (drop 1 words)) Goes result start now
-  ended end (Ok next) replies = (replies.0, all_put (spaced (drop 1 words)) start now (one_put (spaced (drop 1 words)) (held ++ 10 ∷ []) [] start mid now (last end) replies.1))
-  ended end (Err error) replies = (replies.0, front_put (spaced (drop 1 words)) (held ++ 10 ∷ []) [] start mid now (last end) replies.1)
+pub returns-in-Err : goal.returns-in-Err
+returns-in-Err g c = record {
+  told = (refl, front_put (spaced (drop 1 c.args.words.now)) _ _ _ _ _ (here c.args.words.now c.words.left _ _ c.words.invariant.put c.in-Some.word.now c.in-Some.ensures) c.in-Err.ensures.part);
+  counts = omega arith;
+  cause = omega (arith, c.in-Err.ensures.cause.failed);
+}
 
-pub loop-number-preserved : goal.loop-number-preserved
-loop-number-preserved g c =
-    let words = c.args.words.now in
-    record {
-      put = more words c.loop-number.number c.loop-number.line _ _ _ c.loop-number.invariant.put (omega arith) _ (rw c.word.ensures at c.in_default.ensures.added);
-      faults = omega arith;
-    }
-
-pub returns-in-Err-clause-replies : goal.returns-in-Err-clause-replies
-returns-in-Err-clause-replies g c =
-    let words = c.args.words.now in
-    (refl, cut words c.loop-number.number c.loop-number.line _ _ _ c.loop-number.invariant.put (omega arith) (rw c.word.ensures at c.in-Err.ensures.part))
-
-pub returns-clause-replies : goal.returns-clause-replies
-returns-clause-replies g c =
-    let words = c.args.words.now in
-    ended words c.loop-number.number c.loop-number.line _ _ _ c.loop-number.invariant.put (omega arith) _ c.end_echo.ensures.replies
+pub returns : goal.returns
+returns g c = puts_rest g.O.Sink (spaced (drop 1 c.args.words.now)) (10 ∷ []) _ _ _ _ _ (last c.args.words.now c.words.left _ _ c.words.invariant.put c.in_default.ensures) c.words.invariant.faults c.reply.ensures

@@ -3,7 +3,8 @@ use Rattle.std.proofs.lemmas.Result.{err_from_is_err_and}
 use Rattle.mem_model.specs.Told.{room_answer}
 use Rattle.mem_model.proofs.Laws.{low_bytes-written}
 use Rattle.mem_model.proofs.Laying.{Laid-with_low_bytes}
-use Rattle.search_paths.specs.Path.{mounts_of, all_some}
+use Rattle.search_paths.specs.Mounts.{find_told}
+use Rattle.search_paths.specs.Path.{told_mounts}
 use Rattle.file_load.proofs.Loading.{zero_behind, room_in}
 use Rattle.file_load.proofs.Lows.{fresh, are_zeros, zone_given, zone_written, leaves_early, leaves_refused, leaves_made, leaves_unread, early_low, refused_low, unread_low, loaded_low}
 use Rattle.file_load.proofs.low.load_low.Goals as goal
@@ -36,13 +37,13 @@ returns-clause-leaves g c =
 pub returns-in_err-file-clause-told : goal.returns-in_err-file-clause-told
 returns-in_err-file-clause-told g c =
     let p = err_from_is_err_and c.from_residual.result c.from_residual.ensures.1 in
-    rw (p.1, p.2) (early_low _ _ (mounts_of g.F.Folder.files c.args.paths.now) c.in_err-file.field-0.0 c.in_err-file.ensures.early c.in_err-file.ensures.told)
+    rw (p.1, p.2) (early_low _ _ (find_told c.args.name.now (told_mounts g.F.Folder.files c.args.paths.now)) c.in_err-file.field-0.0 c.in_err-file.ensures.early c.in_err-file.ensures.told)
 
 pub returns-in_err-place-clause-told : goal.returns-in_err-place-clause-told
 returns-in_err-place-clause-told g c =
     let p = err_from_is_err_and c.from_residual-in_err-place.result c.from_residual-in_err-place.ensures.1 in
     let gives = rw c.base.ensures.value at c.in_err-place.ensures.gives in
-    rw (p.1, p.2) (refused_low _ _ c.in_ok-file.file (mounts_of g.F.Folder.files c.args.paths.now) c.in_err-place.field-0.0 g.M.Store.frugal _ c.in_ok-file.ensures.told gives)
+    rw (p.1, p.2) (refused_low _ _ c.in_ok-file.file (find_told c.args.name.now (told_mounts g.F.Folder.files c.args.paths.now)) c.in_err-place.field-0.0 g.M.Store.frugal _ c.in_ok-file.ensures.told gives)
 
 pub returns-in_err-place-clause-zone : goal.returns-in_err-place-clause-zone
 returns-in_err-place-clause-zone g c =
@@ -60,7 +61,7 @@ returns-in_err-read_whole-clause-told g c =
     let gives = rw c.base.ensures.value at c.in_ok-place.ensures.gives in
     let blank = are_zeros _ _ _ _ _ _ c.low_alloc.ensures.was_laid gives c.low_bytes_mut.ensures.shows in
     rw (p.1, p.2) (unread_low _ _ c.in_ok-file.file c.in_ok-place.place _ _ _ _ gives c.low_bytes_mut.ensures.shows blank c.read_whole.auto.into (g.met.M.Store.low_writes _ _ _)
-    (mounts_of g.F.Folder.files c.args.paths.now) c.in_err-read_whole.field-0.0 c.in_err-read_whole.ensures.late c.in_ok-file.ensures.told)
+    (find_told c.args.name.now (told_mounts g.F.Folder.files c.args.paths.now)) c.in_err-read_whole.field-0.0 c.in_err-read_whole.ensures.late c.in_ok-file.ensures.told)
 
 pub returns-in_err-read_whole-clause-laid : goal.returns-in_err-read_whole-clause-laid
 returns-in_err-read_whole-clause-laid g c = λ before. rw g.met.M.Store.low_writes (Laid-with_low_bytes _ _ _ c.low_alloc.ensures.laid)
@@ -74,7 +75,7 @@ returns-clause-told g c =
     let gives = rw c.base.ensures.value at c.in_ok-place.ensures.gives in
     let blank = are_zeros _ _ _ _ _ _ c.low_alloc.ensures.was_laid gives c.low_bytes_mut.ensures.shows in
     loaded_low _ _ c.in_ok-file.file c.in_ok-place.place _ _ _ _ gives c.low_bytes_mut.ensures.shows blank c.read_whole.auto.into (g.met.M.Store.low_writes _ _ _)
-    (mounts_of g.F.Folder.files c.args.paths.now) _ (ap all_some c.in_ok-file.ensures.same.mounts) c.in_ok-file.ensures.told c.in_ok-file.ensures.first c.in_ok-read_whole.ensures.filled
+    (find_told c.args.name.now (told_mounts g.F.Folder.files c.args.paths.now)) _ (ap (find_told c.args.name.now) c.in_ok-file.ensures.same.mounts) c.in_ok-file.ensures.told c.in_ok-file.ensures.first c.in_ok-read_whole.ensures.filled
 
 pub returns-clause-there : goal.returns-clause-there
 returns-clause-there g c =

@@ -3,7 +3,8 @@ use Rattle.std.proofs.lemmas.Result.{err_from_is_err_and}
 use Rattle.mem_model.specs.Told.{room_answer}
 use Rattle.mem_model.proofs.Laws.{temp_bytes-written}
 use Rattle.mem_model.proofs.Newest.{Laid-with_temp_bytes}
-use Rattle.search_paths.specs.Path.{mounts_of, all_some}
+use Rattle.search_paths.specs.Mounts.{find_told}
+use Rattle.search_paths.specs.Path.{told_mounts}
 use Rattle.file_load.proofs.Loading.{zero_behind, room_in}
 use Rattle.file_load.proofs.Temps.{fresh, are_zeros, zone_given, zone_written, leaves_early, leaves_refused, leaves_made, leaves_unread, early_temp, refused_temp, unread_temp, loaded_temp}
 use Rattle.file_load.proofs.temp.load_temp.Goals as goal
@@ -33,12 +34,12 @@ returns-clause-leaves g c =
 pub returns-in_err-file-clause-told : goal.returns-in_err-file-clause-told
 returns-in_err-file-clause-told g c =
     let p = err_from_is_err_and c.from_residual.result c.from_residual.ensures.1 in
-    rw (p.1, p.2) (early_temp _ _ (mounts_of g.F.Folder.files c.args.paths.now) c.in_err-file.field-0.0 c.in_err-file.ensures.early c.in_err-file.ensures.told)
+    rw (p.1, p.2) (early_temp _ _ (find_told c.args.name.now (told_mounts g.F.Folder.files c.args.paths.now)) c.in_err-file.field-0.0 c.in_err-file.ensures.early c.in_err-file.ensures.told)
 
 pub returns-in_err-_place-clause-told : goal.returns-in_err-_place-clause-told
 returns-in_err-_place-clause-told g c =
     let p = err_from_is_err_and c.from_residual-in_err-_place.result c.from_residual-in_err-_place.ensures.1 in
-    rw (p.1, p.2) (refused_temp _ _ c.in_ok-file.file (mounts_of g.F.Folder.files c.args.paths.now) c.in_err-_place.field-0.0 g.M.Store.frugal _ c.in_ok-file.ensures.told c.in_err-_place.ensures.gives)
+    rw (p.1, p.2) (refused_temp _ _ c.in_ok-file.file (find_told c.args.name.now (told_mounts g.F.Folder.files c.args.paths.now)) c.in_err-_place.field-0.0 g.M.Store.frugal _ c.in_ok-file.ensures.told c.in_err-_place.ensures.gives)
 
 pub returns-in_err-_place-clause-zone : goal.returns-in_err-_place-clause-zone
 returns-in_err-_place-clause-zone g c = zone_given _ _ (c.in_ok-file.file.length + 1) g.M.Store.frugal (room_answer c.temp_alloc.result) c.temp_alloc.ensures.gives
@@ -54,7 +55,7 @@ returns-in_err-read_whole-clause-told g c =
     let p = err_from_is_err_and c.from_residual-in_err-read_whole.result c.from_residual-in_err-read_whole.ensures.1 in
     let blank = are_zeros _ _ _ _ _ c.in_ok-_place.ensures.gives c.temp_bytes_mut.ensures.shows in
     rw (p.1, p.2) (unread_temp _ _ c.in_ok-file.file _ _ _ _ _ c.in_ok-_place.ensures.gives c.temp_bytes_mut.ensures.shows blank c.read_whole.auto.into (g.met.M.Store.temp_writes _ _)
-    (mounts_of g.F.Folder.files c.args.paths.now) c.in_err-read_whole.field-0.0 c.in_err-read_whole.ensures.late c.in_ok-file.ensures.told)
+    (find_told c.args.name.now (told_mounts g.F.Folder.files c.args.paths.now)) c.in_err-read_whole.field-0.0 c.in_err-read_whole.ensures.late c.in_ok-file.ensures.told)
 
 pub returns-in_err-read_whole-clause-laid : goal.returns-in_err-read_whole-clause-laid
 returns-in_err-read_whole-clause-laid g c = λ before. rw g.met.M.Store.temp_writes (Laid-with_temp_bytes _ _ c.temp_alloc.ensures.laid)
@@ -67,7 +68,7 @@ pub returns-clause-told : goal.returns-clause-told
 returns-clause-told g c =
     let blank = are_zeros _ _ _ _ _ c.in_ok-_place.ensures.gives c.temp_bytes_mut.ensures.shows in
     loaded_temp _ _ c.in_ok-file.file _ _ _ _ _ c.in_ok-_place.ensures.gives c.temp_bytes_mut.ensures.shows blank c.read_whole.auto.into (g.met.M.Store.temp_writes _ _)
-    (mounts_of g.F.Folder.files c.args.paths.now) _ (ap all_some c.in_ok-file.ensures.same.mounts) c.in_ok-file.ensures.told c.in_ok-file.ensures.first c.in_ok-read_whole.ensures.filled
+    (find_told c.args.name.now (told_mounts g.F.Folder.files c.args.paths.now)) _ (ap (find_told c.args.name.now) c.in_ok-file.ensures.same.mounts) c.in_ok-file.ensures.told c.in_ok-file.ensures.first c.in_ok-read_whole.ensures.filled
 
 pub returns-clause-there : goal.returns-clause-there
 returns-clause-there g c =

@@ -1,7 +1,7 @@
 use Rattle.std.proofs.Common.{◌+◌, ◌-◌, refl, ◌∙◌, arith}
 use Rattle.std.proofs.lemmas.List.Elements.{All-push}
-use Rattle.search_paths.specs.Own.{IsOwn}
-use Rattle.search_paths.proofs.OwnMounts.{first_told, first_listed, first_own, more_told, missing_told, full_told, bad_told, more_listed, all_listed}
+use Rattle.search_paths.specs.Own.{IsOwn, IsIn}
+use Rattle.search_paths.proofs.OwnMounts.{first_in, still_in, first_told, first_listed, first_own, more_told, missing_told, full_told, bad_told, more_listed, all_listed}
 use Rattle.search_paths.proofs.mounting.read_mounts.Goals as goal
 
 pub loop-pack-init : goal.loop-pack-init
@@ -12,6 +12,7 @@ loop-pack-init g c =
       made = first_told c.args.number told c.push.new.self.items alone;
       listed = first_listed c.args.number c.push.new.self.items alone;
       own = first_own c.args.number told c.push.new.self.items alone;
+      filtered = first_in c.args.filter.now c.args.number c.push.new.self.items alone;
       same = refl;
       faults = omega arith;
       calls = omega arith;
@@ -38,6 +39,7 @@ loop-pack-preserved g c =
       made = rw c.in-Ok-push.ensures.items (more_told c.args.number c.loop-pack.pack (32 - c.loop-pack.pack) (32 - (c.loop-pack.pack + 1)) told c.loop-pack.mounts.items c.in-Ok-Some.directory (omega arith) found c.loop-pack.invariant.made);
       listed = rw c.in-Ok-push.ensures.items (more_listed c.args.number c.loop-pack.pack c.loop-pack.mounts.items c.in-Ok-Some.directory c.loop-pack.invariant.listed);
       own = rw c.in-Ok-push.ensures.items (All-push (IsOwn c.args.number told) c.loop-pack.mounts.items _ c.loop-pack.invariant.own (refl, found));
+      filtered = rw c.in-Ok-push.ensures.items (All-push (IsIn c.add_all.new.self) c.loop-pack.mounts.items _ (still_in c.loop-pack.filter c.add_all.new.self c.add_all.ensures.kept c.loop-pack.mounts.items c.loop-pack.invariant.filtered) (omega arith, c.add_all.ensures.added));
       same = c.in-Ok-Some.ensures.same ∙ c.loop-pack.invariant.same;
       faults = omega arith;
       calls = omega arith;

@@ -1,11 +1,26 @@
-use Rattle.console_session.specs.Sessions.{path_of, state_of}
-use Rattle.console_session.proofs.Following.{of_told, always}
-use Rattle.console_session.proofs.Lining.{overflow_cut, overflow_runs}
+use Rattle.std.proofs.Common.{rules, refl}
+use Rattle.console_session.specs.Serving.{seen}
+use Rattle.console_session.proofs.Lining.{overflow_cut, overflow_runs, overflow_none}
 use Rattle.console_session.proofs.console.Console.run_overflow.Goals as goal
 
-pub returns-in-Err-clause-told : goal.returns-in-Err-clause-told
-returns-in-Err-clause-told g c = always (path_of g.F.Folder.files c.args.self.now.paths).mounts (λ mounts. overflow_cut mounts (state_of g.M.Store.state c.args.self.now) (state_of g.M.Store.state c.args.self.now) _ _ c.in-Err.ensures.part)
+pub returns-in-Err : goal.returns-in-Err
+returns-in-Err g c =
+    let s = seen g.M.Store g.F.Folder c.args.self.now in
+    record {
+      told = overflow_cut s s _ _ c.in-Err.ensures.part;
+      path = search rules;
+      calls = λ none. refl;
+      holds = search rules;
+      causes = search rules;
+    }
 
-pub returns-clause-told : goal.returns-clause-told
-returns-clause-told g c = of_told (path_of g.F.Folder.files c.args.self.now.paths).mounts c.run_frame.ensures.told (λ mounts runs.
-    overflow_runs mounts (state_of g.M.Store.state c.args.self.now) (state_of g.M.Store.state c.run_frame.new.self) _ _ _ _ c.in_default.ensures.added runs)
+pub returns : goal.returns
+returns g c =
+    let state = seen g.M.Store g.F.Folder in
+    record {
+      told = overflow_runs (state c.args.self.now) (state c.run_frame.new.self) _ _ _ _ c.in_default.ensures.added c.run_frame.ensures.told;
+      path = c.run_frame.ensures.path;
+      calls = λ none. c.run_frame.ensures.calls (overflow_none (state c.args.self.now) none);
+      holds = c.run_frame.ensures.holds;
+      causes = search rules;
+    }

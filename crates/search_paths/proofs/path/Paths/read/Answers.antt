@@ -41,4 +41,4 @@ invariant_of-self g c =
     let whole : c.self.inside.folders.len ≡ length folders = omega arith in
     let same : length c.read_from.new.folders ≡ length folders = omega (arith, c.read_from.auto.folders, ap length c.deref_mut.ensures.value) in
     rw (written_back c.self.inside.folders.len c.read_from.new.folders folders whole same)
-    (still_path g.F.Folder.files folders c.read_from.new.folders c.self.inside.mounts.items (rw c.deref_mut.ensures.value at c.read_from.ensures.told) c.self.invariant)
+    (still_path g.F.Folder.files folders c.read_from.new.folders c.self.inside.mounts.items (rw c.deref_mut.ensures.value at c.read_from.ensures.told) c.self.inside.filters.items c.self.invariant)

@@ -1,0 +1,141 @@
+-- Where all mounts are told, each command is, and each run is told to its end.
+use Prim.Native.Nat.{zero, suc}
+use Rattle.std.proofs.Common.{◌≡◌, ℕ, List, [], length, map, Bool, true, false, eqb, Option, Some, None, option_map, Ok, Err, refl, sym, ◌∙◌, ap, subst, if◌then◌else◌}
+use Rattle.std.specs.Prelude.{codes}
+use Rattle.mem_model.specs.Memory.{Memory}
+use Rattle.search_paths.specs.Mounts.{Mount, find_in}
+use Rattle.search_paths.proofs.FindLaws.{find_told-all}
+use Rattle.cmd_buffer.specs.Aliases.{alias_value}
+use Rattle.cmd_buffer.specs.Buffer.{cut, kept}
+use Rattle.cmd_buffer.specs.Words.{words_of}
+use Rattle.cvar_table.specs.Cvars.{cvar_value}
+use Rattle.file_load.specs.Loads.{Load, Missing, Beyond, NoRoom, At, Loading, load_low, low_load}
+use Rattle.console_session.specs.States.{State, Done, Did, Told, Untold, says}
+use Rattle.console_session.specs.Commands.{word_at, with_load, with_told, by_load, filed, executed, of_number_and_name, reserved, video_set, list_aliases, make_alias, make_cvar, cvar_text, by_cvar, by_alias, by_verb, by_words, by_text, command, fits_in, name_in, number_in}
+use Rattle.console_session.specs.Verbs.{verb_of}
+use Rattle.console_session.specs.Frames.{Ended, Ran, ending, gone_on, continued, frame, overflowed, line, input, IsRun, IsCutShort, GoesAs, Runs}
+use Rattle.console_session.specs.declared.ends.Fault.{Fault}
+use Rattle.console_session.specs.declared.ends.Next.{Next}
+use Rattle.console_session.specs.declared.ends.Next.TheVariants.{Goes}
+use Rattle.console_session.specs.declared.verbs.Verb.{Verb}
+use Rattle.console_session.specs.declared.verbs.Verb.TheVariants as verb
+
+-- what a command does is told, and leaves the path
+abbrev pub Knows : State → Did → Type 0
+Knows s (Told done) = done.after.path ≡ s.path
+Knows s Untold = ⊥
+
+-- the mounts of a state are these, all of them told
+abbrev pub AllTold : State → List Mount → Type 0
+AllTold s mounts = s.path.mounts ≡ map Some mounts
+
+by_test : (s : State) (b : Bool) (one other : Did) → Knows s one → Knows s other → Knows s (if b then one else other)
+by_test s true one other first second = first
+by_test s false one other first second = second
+
+module _ (s : State) (mounts : List Mount) (told : AllTold s mounts) where
+  knows_loading : (missing name : List ℕ) (did : State → Memory → ℕ → List ℕ → Did) → ((m : Memory) (place : ℕ) (bytes : List ℕ) → Knows s (did s m place bytes)) → (m : Memory) (given : Load) → Knows s (with_load missing name did s m given)
+  knows_loading missing name did each m Missing = refl
+  knows_loading missing name did each m (Beyond end whole) = refl
+  knows_loading missing name did each m (NoRoom shortage) = refl
+  knows_loading missing name did each m (At place bytes) = each m place bytes
+
+  -- a load over such mounts is told
+  load_is : (name : List ℕ) → load_low s.path.mounts s.memory name ≡ Some (low_load s.memory name (find_in name mounts))
+  load_is name = ap (λ (ms : List (Option Mount)). load_low ms s.memory name) told ∙ ap (option_map (low_load s.memory name)) (find_told-all name mounts)
+
+  knows_load : (missing : List ℕ) (did : List ℕ → State → Memory → ℕ → List ℕ → Did) → ((name : List ℕ) (m : Memory) (place : ℕ) (bytes : List ℕ) → Knows s (did name s m place bytes)) → (name : Option (List ℕ)) → Knows s (by_load missing did name s)
+  knows_load missing did each None = refl
+  knows_load missing did each (Some name) =
+      let loading : Loading = low_load s.memory name (find_in name mounts) in
+      let known = knows_loading missing name (did name) (each name) loading.after loading.load in
+      subst (λ (given : Option Loading). Knows s (with_told missing name (did name) s given)) (sym (load_is name)) known
+
+  knows_block : (did : ℕ → List ℕ → State → Did) → ((size : ℕ) (name : List ℕ) → Knows s (did size name s)) → (size : Option ℕ) (name : Option (List ℕ)) → Knows s (of_number_and_name did size name s)
+  knows_block did each None name = refl
+  knows_block did each (Some size) None = refl
+  knows_block did each (Some size) (Some name) = each size name
+
+  module _ (words : List (List ℕ)) where
+    knows_cvar : (value : Option (List ℕ)) → Knows s (by_cvar words value s)
+    knows_cvar None = refl
+    knows_cvar (Some value) = by_test s (eqb (length words) 1) (says s Goes (cvar_text (word_at 0 words) value)) (make_cvar words s) refl refl
+
+    knows_alias : (value : Option (List ℕ)) → Knows s (by_alias words value s)
+    knows_alias None = knows_cvar (cvar_value s.memory s.cvars (word_at 0 words))
+    knows_alias (Some value) = refl
+
+    knows_verb : (v : Option Verb) → Knows s (by_verb v words s)
+    knows_verb None = knows_alias (alias_value s.memory s.newest (word_at 0 words))
+    knows_verb (Some verb.File) = knows_load (codes "not found: ") filed (λ name m place bytes. refl) (name_in 1 words)
+    knows_verb (Some verb.Echo) = refl
+    knows_verb (Some verb.Exec) = knows_load (codes "couldn't exec ") executed (λ name m place bytes. refl) (name_in 1 words)
+    knows_verb (Some verb.Wait) = refl
+    knows_verb (Some verb.Quit) = refl
+    knows_verb (Some verb.Reserve) = knows_block reserved (λ size name. refl) (number_in 1 words) (name_in 2 words)
+    knows_verb (Some verb.Video) = knows_block video_set (λ size name. refl) (number_in 1 words) (name_in 2 words)
+    knows_verb (Some verb.Level) = refl
+    knows_verb (Some verb.Report) = refl
+    knows_verb (Some verb.Alias) = by_test s (eqb (length words) 1) (list_aliases s) (make_alias words s) refl refl
+    knows_verb (Some verb.Path) = refl
+
+    knows_words : Knows s (by_words words s)
+    knows_words = by_test s (eqb (length words) 0) (says s Goes []) (by_verb (verb_of (word_at 0 words)) words s) refl (knows_verb (verb_of (word_at 0 words)))
+
+  knows_text : (text : Option (List ℕ)) → Knows s (by_text text s)
+  knows_text None = refl
+  knows_text (Some text) = knows_words (words_of text)
+
+-- A command over told mounts is told.
+pub command_knows : (s : State) (mounts : List Mount) → AllTold s mounts → Knows s (command s)
+unfolding command
+command_knows s mounts told = knows_text (record s { buffer = (cut s.buffer).rest }) mounts told (kept (cut s.buffer).command)
+
+-- a run is told to its end, and leaves the path
+pub record KnowsEnd (s : State) (ran : Ran) : Type 0 where
+  pub end : Ended
+  pub is : ran.end ≡ Some end
+  pub path : end.after.path ≡ s.path
+
+ends_here : (s after : State) (quit : Bool) (ran : Ran) → ran.end ≡ Some (record { after = after; quit = quit }) → after.path ≡ s.path → KnowsEnd s ran
+ends_here s after quit ran is path = record { end = record { after = after; quit = quit }; is = is; path = path }
+
+module _ (s : State) (mounts : List Mount) (told : AllTold s mounts) (ends : Next → Option Bool) (rest : State → Ran) (later : (after : State) → AllTold after mounts → KnowsEnd after (rest after)) where
+  gone : (done : Done) → done.after.path ≡ s.path → (end : Option Bool) → KnowsEnd s (gone_on done end rest)
+  gone done path None =
+      let known = later done.after (ap (λ p. p.mounts) path ∙ told) in
+      record { end = known.end; is = known.is; path = known.path ∙ path }
+  gone done path (Some quit) = ends_here s done.after quit _ refl path
+
+  going : (did : Did) → Knows s did → KnowsEnd s (continued did ends rest)
+  going (Told done) path = gone done path (ends done.next)
+  going Untold none = absurd none
+
+by_run : (s : State) (b : Bool) (one other : Ran) → KnowsEnd s one → KnowsEnd s other → KnowsEnd s (if b then one else other)
+by_run s true one other first second = first
+by_run s false one other first second = second
+
+-- A frame over told mounts is told to its end.
+pub frame_knows : (through : Bool) (n : ℕ) (s : State) (mounts : List Mount) → AllTold s mounts → KnowsEnd s (frame through n s)
+unfolding frame
+frame_knows through zero s mounts told = by_run s (eqb (length s.buffer) 0) _ _ (ends_here s s false _ refl refl) (ends_here s (record s { buffer = [] }) false _ refl refl)
+frame_knows through (suc n) s mounts told =
+    by_run s (eqb (length s.buffer) 0) _ _ (ends_here s s false _ refl refl)
+    (going s mounts told (ending through) (λ after. frame through n after) (λ after still. frame_knows through n after mounts still) (command s) (command_knows s mounts told))
+
+-- So is an input line.
+pub line_knows : (text : List ℕ) (s : State) (mounts : List Mount) → AllTold s mounts → KnowsEnd s (line text s)
+unfolding line overflowed
+line_knows text s mounts told =
+    let over = frame_knows false 4096 s mounts told in
+    let known : KnowsEnd s (overflowed s) = record { end = over.end; is = over.is; path = over.path } in
+    let fits = frame_knows false 4096 (record s { buffer = _ }) mounts told in
+    by_run s (fits_in (input text) s.buffer) _ _ (record { end = fits.end; is = fits.is; path = fits.path }) known
+
+-- What is known of such a run is what was known of it before runs could be untold: all of it was put and it ended so, or a fault
+-- ended one reply.
+pub whole_run : (s : State) (ran : Ran) (known : KnowsEnd s ran) (quit : Bool) (new : State) (start now : Option (List ℕ)) → Runs ran (Ok quit) new start now → IsRun ran.replies known.end quit new start now
+whole_run s ran known quit new start now runs = subst (λ e. GoesAs ran.replies e (Ok quit) new start now) known.is runs
+
+pub cut_run : (s : State) (ran : Ran) (known : KnowsEnd s ran) (error : Fault) (new : State) (start now : Option (List ℕ)) → Runs ran (Err error) new start now → IsCutShort ran.replies error start now
+cut_run s ran known error new start now runs = subst (λ e. GoesAs ran.replies e (Err error) new start now) known.is runs

@@ -1,0 +1,292 @@
+-- Marks of the low hunk stay marks over what commands do to the memory.
+use Prim.Native.Nat.{zero, suc}
+use Rattle.std.proofs.Common.{◌≡◌, ℕ, ◌+◌, ◌<◌, ◌≤◌, List, [], ◌∷◌, ◌++◌, length, take, drop, Bool, true, false, cond, eqb, ltb, Option, Some, None, option_map, Result, Ok, Err, inl, inr, ◌⊎◌, refl, sym, ◌∙◌, ap, subst, arith, length-append}
+use Rattle.std.specs.List.{AllByRecursion}
+use Rattle.std.proofs.lemmas.List.{take-append-le, take-append-drop}
+use Rattle.std.proofs.lemmas.Bool.{cases_lt}
+use Rattle.std.proofs.lemmas.Bool.Decides.{nat_tests}
+use Rattle.std.specs.Prelude.{bytes_eq, find}
+use Rattle.base_fields.specs.Names.{base_of}
+use Rattle.mem_model.specs.Blocks.{HunkBlock}
+use Rattle.mem_model.specs.Memory.{Memory, size_of, room}
+use Rattle.mem_model.specs.Answer.{Answered, Answers, Gives, with_event}
+use Rattle.mem_model.specs.Event.{Event, Shortage}
+use Rattle.mem_model.specs.Places.{hunk_need}
+use Rattle.mem_model.specs.Hunk.{hunk_block, with_low, with_low_bytes, with_bytes, with_bytes_from, with_bytes_above, cut_from, cut_above, with_high, without_temp, temp_freed}
+use Rattle.mem_model.specs.Operations.{low_alloc, low_free, low_cut, high_taken, high_alloc, high_cut, high_free, high_mark, z_alloc}
+use Rattle.mem_model.specs.Laid.{IsHunkBlock, AreLowBlocks}
+use Rattle.mem_model.proofs.Laying.{size_of-take, low-take}
+use Rattle.mem_model.proofs.Cuts.{cut_whole}
+use Rattle.mem_model.proofs.Untouched.{low-z_alloc, low-z_free, low-with_zone_bytes}
+use Rattle.mem_model.specs.declared.answers.Place.{Place}
+use Rattle.zone_values.specs.Values.{put_value, replace_value}
+use Rattle.zone_values.proofs.ValueLaws.{low-put_value, low-replace_value}
+use Rattle.cvar_table.specs.Cvars.{Cvar, set_cvar}
+use Rattle.cvar_table.proofs.CvarLaws.{low-set_cvar}
+use Rattle.cmd_buffer.specs.Aliases.{Alias, AliasRefusal, AliasRefusal.LongName, aliases_of, refused, value_reset, record_written, record_added, set_named, set_alias}
+use Rattle.cmd_buffer.specs.AliasCalls.{given_back, GivesSet}
+use Rattle.file_load.specs.declared.errors.LoadError.{LoadError}
+use Rattle.file_load.specs.declared.errors.LoadError.TheVariants as load
+use Rattle.file_load.specs.declared.errors.Stage.TheVariants as stage
+use Rattle.file_load.specs.Loads.{low_block}
+use Rattle.file_load.specs.Leaves.{IsMade, LeavesLow}
+use Rattle.console_session.specs.Holding.{IsLowMark}
+
+-- where the low hunk ends
+pub mark_at_end : (low : List HunkBlock) → AreLowBlocks low → IsLowMark low (size_of low)
+mark_at_end [] laid = absurd laid
+mark_at_end (zone ∷ blocks) laid = record {
+  count = length (zone ∷ blocks);
+  some = omega arith;
+  inside = omega arith;
+  ends = ap size_of (take_whole (zone ∷ blocks));
+}
+  where
+    take_whole : (xs : List HunkBlock) → take (length xs) xs ≡ xs
+    take_whole [] = refl
+    take_whole (x ∷ xs) = ap (λ (l : List HunkBlock). x ∷ l) (take_whole xs)
+
+pub mark_within : (low : List HunkBlock) (mark : ℕ) → IsLowMark low mark → mark ≤ size_of low
+mark_within low mark is = omega (arith, size_of-take is.count low, is.ends)
+
+-- more blocks above it
+pub mark_below : (low more : List HunkBlock) (mark : ℕ) → IsLowMark low mark → IsLowMark (low ++ more) mark
+mark_below low more mark is = record {
+  count = is.count;
+  some = is.some;
+  inside = omega (arith, is.inside, length-append low more);
+  ends = ap size_of (take-append-le is.count low more is.inside) ∙ is.ends;
+}
+
+-- other bytes in the blocks
+size_test : (t : Bool) (b other : HunkBlock) (bs rest : List HunkBlock) (n : ℕ) → other.size ≡ b.size → size_of (take n rest) ≡ size_of (take n bs) → size_of (take (suc n) (cond t (other ∷ bs) (b ∷ rest))) ≡ size_of (take (suc n) (b ∷ bs))
+size_test true b other bs rest n same later = ap (λ k. k + size_of (take n bs)) same
+size_test false b other bs rest n same later = ap (λ k. b.size + k) later
+
+length_test : (t : Bool) (b other : HunkBlock) (bs rest : List HunkBlock) → length rest ≡ length bs → length (cond t (other ∷ bs) (b ∷ rest)) ≡ length (b ∷ bs)
+length_test true b other bs rest later = refl
+length_test false b other bs rest later = ap suc later
+
+sizes_from : (start : ℕ) (blocks : List HunkBlock) (place : ℕ) (bytes : List ℕ) (n : ℕ) → size_of (take n (with_bytes_from start blocks place bytes)) ≡ size_of (take n blocks)
+sizes_from start blocks place bytes zero = refl
+sizes_from start [] place bytes (suc n) = refl
+sizes_from start (b ∷ bs) place bytes (suc n) =
+    size_test (eqb (start + 16) place) b (with_bytes b bytes) bs (with_bytes_from (start + b.size) bs place bytes) n refl (sizes_from (start + b.size) bs place bytes n)
+
+lengths_from : (start : ℕ) (blocks : List HunkBlock) (place : ℕ) (bytes : List ℕ) → length (with_bytes_from start blocks place bytes) ≡ length blocks
+lengths_from start [] place bytes = refl
+lengths_from start (b ∷ bs) place bytes =
+    length_test (eqb (start + 16) place) b (with_bytes b bytes) bs (with_bytes_from (start + b.size) bs place bytes) (lengths_from (start + b.size) bs place bytes)
+
+mark_above : (low : List HunkBlock) (mark place : ℕ) (bytes : List ℕ) → IsLowMark low mark → IsLowMark (with_bytes_above low place bytes) mark
+mark_above [] mark place bytes is = is
+mark_above (zone ∷ blocks) mark place bytes is = by is.count is.some is.inside is.ends
+  where
+    by : (n : ℕ) → 0 < n → n ≤ length (zone ∷ blocks) → size_of (take n (zone ∷ blocks)) ≡ mark → IsLowMark (zone ∷ with_bytes_from zone.size blocks place bytes) mark
+    by zero some inside ends = absurd (omega (arith, some))
+    by (suc n) some inside ends = record {
+      count = suc n;
+      some = some;
+      inside = omega (arith, inside, lengths_from zone.size blocks place bytes);
+      ends = ap (λ k. zone.size + k) (sizes_from zone.size blocks place bytes n) ∙ ends;
+    }
+
+pub mark_written : (m : Memory) (mark place : ℕ) (bytes : List ℕ) → IsLowMark m.low mark → IsLowMark (with_low_bytes m place bytes).low mark
+unfolding with_low_bytes
+mark_written m mark place bytes is = mark_above m.low mark place bytes is
+
+low-with_event : (m : Memory) (event : Event) → (with_event m event).low ≡ m.low
+low-with_event m event = by (ltb (length m.events) m.event_room)
+  where
+    by : (t : Bool) → (cond t (record m { events = m.events ++ event ∷ [] }) m).low ≡ m.low
+    by true = refl
+    by false = refl
+
+either : {A : Type 0} (t : Bool) (a b : Answered A) (P : Memory → Type 0) → P a.after → P b.after → P (cond t a b).after
+either true a b P one other = one
+either false a b P one other = other
+
+-- a low block was asked for
+pub mark_alloc : (m : Memory) (size mark : ℕ) (name : List ℕ) → IsLowMark m.low mark → IsLowMark (low_alloc m size name).after.low mark
+unfolding low_alloc with_low
+mark_alloc m size mark name is =
+    subst (λ l. IsLowMark l mark) (sym (low-with_event _ _)) (either (ltb (room m) (hunk_need size)) _ _ (λ n. IsLowMark n.low mark) is (mark_below m.low (hunk_block (hunk_need size) name ∷ []) mark is))
+
+pub mark_given : (m n : Memory) (size mark : ℕ) (name : List ℕ) (frugal : Bool) (reply : Option (Result ℕ Shortage)) → Gives (low_alloc m size name) frugal m reply n → IsLowMark m.low mark → IsLowMark n.low mark
+mark_given m n size mark name frugal None gives is = subst (λ (x : Memory). IsLowMark x.low mark) (sym gives.after) is
+mark_given m n size mark name frugal (Some reply) gives is = subst (λ (x : Memory). IsLowMark x.low mark) (sym gives.after) (mark_alloc m size mark name is)
+
+-- what a load leaves
+made : (m new : Memory) (name : List ℕ) (size place mark : ℕ) → IsMade (low_block m name) with_low_bytes size place new → IsLowMark m.low mark → IsLowMark new.low mark
+made m new name size place mark stands is =
+    subst (λ (x : Memory). IsLowMark x.low mark) (sym stands.after) (mark_written (low_block m name size).after mark place stands.bytes (mark_alloc m (size + 1) mark (base_of name) is))
+
+pub mark_loaded : (m new : Memory) (name : List ℕ) (mark : ℕ) (result : Result (Place × ℕ) LoadError) → LeavesLow m name result new → IsLowMark m.low mark → IsLowMark new.low mark
+mark_loaded m new name mark (Ok loaded) leaves is = made m new name loaded.1 loaded.0.0 mark leaves is
+mark_loaded m new name mark (Err load.NotFound) leaves is = subst (λ (x : Memory). IsLowMark x.low mark) (sym leaves) is
+mark_loaded m new name mark (Err (load.BeyondPack end whole)) leaves is = subst (λ (x : Memory). IsLowMark x.low mark) (sym leaves) is
+mark_loaded m new name mark (Err (load.NoRoom asked room)) leaves is = subst (λ (x : Memory). IsLowMark x.low mark) (sym leaves.1.after) (mark_alloc m (leaves.0 + 1) mark (base_of name) is)
+mark_loaded m new name mark (Err (load.FolderFault folder stage.Find)) leaves is = subst (λ (x : Memory). IsLowMark x.low mark) (sym leaves) is
+mark_loaded m new name mark (Err (load.FolderFault folder stage.Read)) leaves is = made m new name leaves.0 leaves.1 mark leaves.2 is
+mark_loaded m new name mark (Err load.OutOfMemory) leaves is = subst (λ (x : Memory). IsLowMark x.low mark) (sym leaves) is
+
+-- what a cut keeps: so many of the first blocks, which end at the mark
+record IsKept (start to : ℕ) (blocks kept : List HunkBlock) : Type 0 where
+  inside : length kept ≤ length blocks
+  is : kept ≡ take (length kept) blocks
+  ends : start + size_of kept ≡ to
+
+kept_none : (start to : ℕ) (blocks : List HunkBlock) → eqb start to ≡ true → IsKept start to blocks []
+kept_none start to blocks same = record { inside = omega arith; is = refl; ends = let e : start ≡ to = grind (arith, nat_tests) in omega (arith, e) }
+
+kept_more : (start to : ℕ) (b : HunkBlock) (bs kept : List HunkBlock) → IsKept (start + b.size) to bs kept → IsKept start to (b ∷ bs) (b ∷ kept)
+kept_more start to b bs kept k = record { inside = omega (arith, k.inside); is = ap (λ l. b ∷ l) k.is; ends = omega (arith, k.ends) }
+
+cut_keeps : (start : ℕ) (blocks : List HunkBlock) (to : ℕ) (kept : List HunkBlock) → cut_from start blocks to ≡ Some kept → IsKept start to blocks kept
+cut_keeps start [] to kept is = by (eqb start to) refl is
+  where
+    by : (t : Bool) → eqb start to ≡ t → cond t (Some []) None ≡ Some kept → IsKept start to [] kept
+    by true test same = let empty : [] ≡ kept = cc (same) in subst (λ l. IsKept start to [] l) empty (kept_none start to [] test)
+    by false test same = absurd (cc)
+cut_keeps start (b ∷ bs) to kept is = by (eqb start to) refl (cut_from (start + b.size) bs to) (cut_keeps (start + b.size) bs to) is
+  where
+    by : (t : Bool) → eqb start to ≡ t → (rest : Option (List HunkBlock)) → ((k : List HunkBlock) → rest ≡ Some k → IsKept (start + b.size) to bs k) → cond t (Some []) (option_map (λ k. b ∷ k) rest) ≡ Some kept → IsKept start to (b ∷ bs) kept
+    by true test rest later same = let empty : [] ≡ kept = cc (same) in subst (λ l. IsKept start to (b ∷ bs) l) empty (kept_none start to (b ∷ bs) test)
+    by false test None later same = absurd (cc)
+    by false test (Some k) later same = let more : b ∷ k ≡ kept = cc (same) in subst (λ l. IsKept start to (b ∷ bs) l) more (kept_more start to b bs k (later k refl))
+
+size_more : (k n : ℕ) (blocks : List HunkBlock) → AllByRecursion IsHunkBlock blocks → k < n → n ≤ length blocks → size_of (take k blocks) < size_of (take n blocks)
+size_more k zero blocks all less inside = absurd (omega arith)
+size_more k (suc n) [] all less inside = absurd (omega arith)
+size_more zero (suc n) (b ∷ bs) all less inside = omega (arith, all.0.header)
+size_more (suc k) (suc n) (b ∷ bs) all less inside = omega (arith, size_more k n bs all.1 (omega arith) (omega arith))
+
+take_fewer : (n k : ℕ) (xs : List HunkBlock) → n ≤ k → take n (take k xs) ≡ take n xs
+take_fewer zero k xs less = refl
+take_fewer (suc n) zero xs less = absurd (omega arith)
+take_fewer (suc n) (suc k) [] less = refl
+take_fewer (suc n) (suc k) (x ∷ xs) less = ap (λ (l : List HunkBlock). x ∷ l) (take_fewer n k xs (omega arith))
+
+-- the low hunk was cut at a mark that isn't below
+mark_cut : (zone : HunkBlock) (blocks kept : List HunkBlock) (to mark : ℕ) → AllByRecursion IsHunkBlock blocks → IsKept zone.size to blocks kept → mark ≤ to → (n : ℕ) → n ≤ length blocks → zone.size + size_of (take n blocks) ≡ mark → IsLowMark (zone ∷ kept) mark
+mark_cut zone blocks kept to mark all is above n inside ends =
+    let within : n ≤ length kept = fewer (cases_lt (length kept) n) in
+    let front : take n kept ≡ take n blocks = ap (take n) is.is ∙ take_fewer n (length kept) blocks within in
+    record {
+      count = suc n;
+      some = omega arith;
+      inside = omega (arith, within);
+      ends = ap (λ (l : List HunkBlock). zone.size + size_of l) front ∙ ends;
+    }
+  where
+    fewer : (length kept < n) ⊎ (n ≤ length kept) → n ≤ length kept
+    fewer (inr less) = less
+    fewer (inl more) = absurd (omega (arith, size_more (length kept) n blocks all more inside, ap size_of is.is, is.ends, ends, above))
+
+pub mark_freed : (m : Memory) (to mark : ℕ) → AreLowBlocks m.low → IsLowMark m.low mark → mark ≤ to → IsLowMark (low_free m to).after.low mark
+unfolding low_free
+mark_freed m to mark laid is above = subst (λ l. IsLowMark l mark) (sym (low-with_event _ _)) (by m.low laid is (cut_above m.low to) refl)
+  where
+    cut : (zone : HunkBlock) (blocks kept : List HunkBlock) → AllByRecursion IsHunkBlock blocks → (n : ℕ) → 0 < n → n ≤ length (zone ∷ blocks) → size_of (take n (zone ∷ blocks)) ≡ mark → IsKept zone.size to blocks kept → IsLowMark (zone ∷ kept) mark
+    cut zone blocks kept all zero some inside ends k = absurd (omega (arith, some))
+    cut zone blocks kept all (suc n) some inside ends k = mark_cut zone blocks kept to mark all k above n (omega (arith, inside)) ends
+
+    kept_by : (zone : HunkBlock) (blocks : List HunkBlock) → AllByRecursion IsHunkBlock blocks → IsLowMark (zone ∷ blocks) mark → (rest : Option (List HunkBlock)) → ((k : List HunkBlock) → rest ≡ Some k → IsKept zone.size to blocks k)
+        → (kept : List HunkBlock) → option_map (λ k. zone ∷ k) rest ≡ Some kept → IsLowMark kept mark
+    kept_by zone blocks all is None each kept same = absurd (cc)
+    kept_by zone blocks all is (Some k) each kept same =
+        let more : zone ∷ k ≡ kept = cc (same) in
+        subst (λ l. IsLowMark l mark) more (cut zone blocks k all is.count is.some is.inside is.ends (each k refl))
+
+    by : (low : List HunkBlock) → AreLowBlocks low → IsLowMark low mark → (kept : Option (List HunkBlock)) → cut_above low to ≡ kept → IsLowMark (low_cut (record m { low = low }) to kept).after.low mark
+    by low laid is None same = is
+    by [] laid is (Some kept) same = absurd laid
+    by (zone ∷ blocks) laid is (Some kept) same = kept_by zone blocks laid.1 is (cut_from zone.size blocks to) (cut_keeps zone.size blocks to) kept same
+
+-- The high hunk's calls and the zone's leave the low hunk.
+low-without_temp : (m : Memory) → (without_temp m).low ≡ m.low
+unfolding without_temp
+low-without_temp m = by m.temp
+  where
+    by : (temp : Option ℕ) → (temp_freed m temp).low ≡ m.low
+    by None = refl
+    by (Some mark) = refl
+
+low-high_taken : (m : Memory) (size : ℕ) (name : List ℕ) → (high_taken m size name).after.low ≡ m.low
+unfolding high_taken with_high
+low-high_taken m size name = either (ltb (room m) (hunk_need size)) _ _ (λ n. n.low ≡ m.low) refl refl
+
+low-high_alloc : (m : Memory) (size : ℕ) (name : List ℕ) → (high_alloc m size name).after.low ≡ m.low
+unfolding high_alloc
+low-high_alloc m size name = low-with_event _ _ ∙ low-high_taken (without_temp m) size name ∙ low-without_temp m
+
+low-high_cut : (m : Memory) (mark : ℕ) (kept : Option (List HunkBlock)) → (high_cut m mark kept).after.low ≡ m.low
+low-high_cut m mark None = refl
+low-high_cut m mark (Some kept) = refl
+
+low-high_free : (m : Memory) (mark : ℕ) → (high_free m mark).after.low ≡ m.low
+unfolding high_free
+low-high_free m mark = low-with_event _ _ ∙ low-high_cut (without_temp m) mark (cut_from 0 (without_temp m).high mark) ∙ low-without_temp m
+
+low-high_mark : (m : Memory) → (high_mark m).after.low ≡ m.low
+unfolding high_mark
+low-high_mark m = low-with_event _ _ ∙ low-without_temp m
+
+low_after_high : (m n : Memory) (size : ℕ) (name : List ℕ) (frugal : Bool) (reply : Option (Result ℕ Shortage)) → Gives (high_alloc m size name) frugal (without_temp m) reply n → n.low ≡ m.low
+low_after_high m n size name frugal None given = ap (λ (x : Memory). x.low) given.after ∙ low-without_temp m
+low_after_high m n size name frugal (Some reply) given = ap (λ (x : Memory). x.low) given.after ∙ low-high_alloc m size name
+
+pub low_after_video : (m marked freed n : Memory) (size : ℕ) (name : List ℕ) (frugal : Bool) (mark : ℕ) (answer : Result (Unit {0}) ℕ) (reply : Option (Result ℕ Shortage)) →
+    Answers (high_mark m) mark marked → Answers (high_free marked 0) answer freed → Gives (high_alloc freed size name) frugal (without_temp freed) reply n → n.low ≡ m.low
+low_after_video m marked freed n size name frugal mark answer reply marking freeing given =
+    low_after_high freed n size name frugal reply given
+    ∙ ap (λ (x : Memory). x.low) freeing.after ∙ low-high_free marked 0
+    ∙ ap (λ (x : Memory). x.low) marking.after ∙ low-high_mark m
+
+pub low_after_cvar : (m n : Memory) (cvars : List Cvar) (name value : List ℕ) (frugal : Bool) (reply : Option (Result Bool ℕ)) → Gives (set_cvar m cvars name value).given frugal m reply n → n.low ≡ m.low
+low_after_cvar m n cvars name value frugal None gives = ap (λ (x : Memory). x.low) gives.after
+low_after_cvar m n cvars name value frugal (Some reply) gives = ap (λ (x : Memory). x.low) gives.after ∙ low-set_cvar m cvars name value
+
+low-reset : (newest : Option ℕ) (place : ℕ) (m : Memory) (answer : Result ℕ ℕ) → (value_reset newest place m answer).after.low ≡ m.low
+low-reset newest place m (Ok value) = low-with_zone_bytes m place _
+low-reset newest place m (Err asked) = refl
+
+low-written : (newest : Option ℕ) (name : List ℕ) (place : ℕ) (m : Memory) (answer : Result ℕ ℕ) → (record_written newest name place m answer).after.low ≡ m.low
+low-written newest name place m (Ok value) = low-with_zone_bytes m place _
+low-written newest name place m (Err asked) = low-z_free m place
+
+low-recorded : (newest : Option ℕ) (name value : List ℕ) (m : Memory) (answer : Result ℕ ℕ) → (record_added newest name value m answer).after.low ≡ m.low
+low-recorded newest name value m (Ok place) = low-written newest name place (put_value m value).after (put_value m value).answer ∙ low-put_value m value
+low-recorded newest name value m (Err asked) = refl
+
+low-set_alias : (m : Memory) (newest : Option ℕ) (name value : List ℕ) → (set_alias m newest name value).after.low ≡ m.low
+unfolding set_alias
+low-set_alias m newest name value = by (ltb 31 (length name)) (find (λ (a : Alias). bytes_eq a.name name) (aliases_of m newest))
+  where
+    named : (o : Option Alias) → (set_named m newest name value o).after.low ≡ m.low
+    named None = low-recorded newest name value (z_alloc m 40).after (z_alloc m 40).answer ∙ low-z_alloc m 40
+    named (Some a) = low-reset newest a.record_place (replace_value m a.value_place value).after (replace_value m a.value_place value).answer ∙ low-replace_value m value a.value_place
+
+    by : (t : Bool) (o : Option Alias) → (cond t (refused LongName m newest) (set_named m newest name value o)).after.low ≡ m.low
+    by true o = refl
+    by false o = named o
+
+low-given_back : (m : Memory) (answer : Result ℕ ℕ) → (given_back m answer).low ≡ m.low
+low-given_back m (Ok place) = low-z_free m place
+low-given_back m (Err asked) = refl
+
+pub low_after_alias : (m n : Memory) (before newest : Option ℕ) (name value : List ℕ) (frugal : Bool) (reply : Option (Result (Unit {0}) AliasRefusal)) → GivesSet (set_alias m before name value) frugal m before reply n newest → n.low ≡ m.low
+low_after_alias m n before newest name value frugal (Some reply) gives = ap (λ (x : Memory). x.low) gives.after ∙ low-set_alias m before name value
+low_after_alias m n before newest name value frugal None gives = by gives.after
+  where
+    by : (n ≡ m) ⊎ (n ≡ given_back (z_alloc m 40).after (z_alloc m 40).answer) → n.low ≡ m.low
+    by (inl same) = ap (λ (x : Memory). x.low) same
+    by (inr back) = ap (λ (x : Memory). x.low) back ∙ low-given_back (z_alloc m 40).after (z_alloc m 40).answer ∙ low-z_alloc m 40
+
+-- The low hunk can be freed to such a mark.
+pub mark_lawful : (m : Memory) (mark : ℕ) → AreLowBlocks m.low → IsLowMark m.low mark → (low_free m mark).answer ≡ Ok tt
+unfolding low_free
+mark_lawful m mark laid is =
+    let kept : cut_above m.low mark ≡ Some (take is.count m.low) =
+    ap (λ (l : List HunkBlock). cut_above l mark) (sym (take-append-drop is.count m.low)) ∙ cut_whole (take is.count m.low) (drop is.count m.low) mark (low-take is.count m.low is.some laid) is.ends in
+    ap (λ (k : Option (List HunkBlock)). (low_cut m mark k).answer) kept
