@@ -60,7 +60,8 @@ pub trait Store: Drop {
     /// The bytes of a low block above the zone.
     fn low_bytes(&self, place: Place) -> &[u8]
         requires { IsSome (low_bytes (state self.now) place.0) }
-        ensures { low_bytes (state self.now) place.0 ≡ Some result.now };
+        ensures shows { low_bytes (state self.now) place.0 ≡ Some result.now }
+        ensures laid { Laid (state self.now) };
 
     /// The bytes of a low block above the zone, to be written.
     fn low_bytes_mut(&mut self, place: Place) -> &mut [u8]
@@ -111,8 +112,9 @@ pub trait Store: Drop {
 
     /// The bytes of the active temporary block: none exactly where none is active.
     fn temp_bytes(&self) -> Option<&[u8]>
-        ensures { MatchOption result (temp_bytes (state self.now) ≡ None)
-            (λ bytes. temp_bytes (state self.now) ≡ Some bytes.now) };
+        ensures shows { MatchOption result (temp_bytes (state self.now) ≡ None)
+            (λ bytes. temp_bytes (state self.now) ≡ Some bytes.now) }
+        ensures laid { Laid (state self.now) };
 
     /// The bytes of the active temporary block, to be written.
     fn temp_bytes_mut(&mut self) -> &mut [u8]
@@ -135,11 +137,13 @@ pub trait Store: Drop {
     ///
     /// The place is that of the header, the user is 0, and each block is in use.
     fn low_row(&self, number: u32) -> Option<BlockRow>
-        ensures row { row_answer result ≡ slice_get (low_rows (state self.now)) number };
+        ensures row { row_answer result ≡ slice_get (low_rows (state self.now)) number }
+        ensures laid { Laid (state self.now) };
 
     /// The same among the high blocks, which go from the newest, since that has the lowest place.
     fn high_row(&self, number: u32) -> Option<BlockRow>
-        ensures row { row_answer result ≡ slice_get (high_rows (state self.now)) number };
+        ensures row { row_answer result ≡ slice_get (high_rows (state self.now)) number }
+        ensures laid { Laid (state self.now) };
 
     /// Allocates `size` zero bytes in the zone, and answers their place. The block takes `size` and 28 bytes, rounded up
     /// to a multiple of 8. It is cut from the first free block that holds this, in the ring that begins at the rover; a
@@ -182,11 +186,13 @@ pub trait Store: Drop {
     ///
     /// The place is that of the header, the size counts the header and the end mark, there is no name and the user is 0.
     fn zone_row(&self, number: u32) -> Option<BlockRow>
-        ensures row { row_answer result ≡ slice_get (zone_rows (state self.now)) number };
+        ensures row { row_answer result ≡ slice_get (zone_rows (state self.now)) number }
+        ensures laid { Laid (state self.now) };
 
     /// The place of the header of the block on which the rover stands, or 20 where it stands on the cap behind the last.
     fn rover(&self) -> u32
-        ensures rover { result ≡ rover_place (state self.now).zone };
+        ensures rover { result ≡ rover_place (state self.now).zone }
+        ensures laid { Laid (state self.now) };
 
     /// A user without a block gets one of `size` zero bytes, with the first 15 bytes of a name, and becomes the most
     /// recently used. The block takes `size` and 40 bytes, rounded up to a multiple of 16. It stands at the first gap
@@ -212,12 +218,14 @@ pub trait Store: Drop {
 
     /// The bytes of a user's block, which is no use of it: `None` exactly where it has none.
     fn peek(&self, user: u32) -> Option<&[u8]>
-        ensures { MatchOption result (peek_bytes (state self.now).cache user ≡ None)
-            (λ bytes. peek_bytes (state self.now).cache user ≡ Some bytes.now) };
+        ensures shows { MatchOption result (peek_bytes (state self.now).cache user ≡ None)
+            (λ bytes. peek_bytes (state self.now).cache user ≡ Some bytes.now) }
+        ensures laid { Laid (state self.now) };
 
     /// The place of a user's block, which is no use of it: `None` exactly where it has none.
     fn peek_place(&self, user: u32) -> Option<Place>
-        ensures place { place_answer result ≡ peek_place (state self.now).cache user };
+        ensures place { place_answer result ≡ peek_place (state self.now).cache user }
+        ensures laid { Laid (state self.now) };
 
     /// Frees a user's block, and answers whether there was one.
     fn cache_free(&mut self, user: u32) -> bool
@@ -233,12 +241,14 @@ pub trait Store: Drop {
     ///
     /// The place is that of the header, and each block is in use.
     fn cache_row(&self, number: u32) -> Option<BlockRow>
-        ensures row { row_answer result ≡ slice_get (cache_rows (state self.now)) number };
+        ensures row { row_answer result ≡ slice_get (cache_rows (state self.now)) number }
+        ensures laid { Laid (state self.now) };
 
     /// The user of a number among those that have a block in the cache, the most recently used first: `None` exactly past
     /// the last.
     fn lru_user(&self, number: u32) -> Option<u32>
-        ensures user { result ≡ slice_get (state self.now).cache.recency number };
+        ensures user { result ≡ slice_get (state self.now).cache.recency number }
+        ensures laid { Laid (state self.now) };
 
     /// The size of the arena.
     fn size(&self) -> u32

@@ -8,12 +8,12 @@ use Rattle.mem_model.proofs.plain.PlainStoreStore.temp_bytes.Goals as goal
 pub last_of-requires : goal.last_of-requires
 last_of-requires c = rw c.deref.ensures.value (some-marked c.self.inside.high.items c.in-Some.field-0 (rw c.in-Some.is at c.self.invariant.laid.temp))
 
-pub returns-in-Some : goal.returns-in-Some
-returns-in-Some c =
+pub returns-in-Some-clause-shows : goal.returns-in-Some-clause-shows
+returns-in-Some-clause-shows c =
     let newest : IsLast c.self.inside.high.items c.last_of.result = rw c.deref.ensures.value at c.last_of.ensures in
     let inside : c.last_of.result < c.self.inside.high.len = omega (arith, newest.inside, c.self.inside.high.ok.0) in
     let read = slice_get_read c.self.inside.high.items _ c.last_of.result c.index.result.now c.self.inside.high.ok.0 inside c.index.ensures in
     rw (← c.self.view_is, temp_bytes-some (state_of c.self.inside) c.in-Some.field-0 c.in-Some.is, c.bytes.ensures) (newest.reads c.index.result.now read)
 
-pub returns-in-None : goal.returns-in-None
-returns-in-None c = rw (← c.self.view_is) (temp_bytes-none (state_of c.self.inside) c.in-None.is)
+pub returns-in-None-clause-shows : goal.returns-in-None-clause-shows
+returns-in-None-clause-shows c = rw (← c.self.view_is) (temp_bytes-none (state_of c.self.inside) c.in-None.is)
