@@ -1,6 +1,9 @@
 -- A reply as pieces of text.
-use Rattle.std.specs.Prelude.{ℕ, List, [], ◌∷◌, ◌++◌, ◌≡◌, Option, decimal}
-use Rattle.outside_io.specs.Streams.{Adds}
+use Rattle.std.specs.Prelude.{ℕ, List, [], ◌∷◌, ◌++◌, Result, OnOk, OnErr, decimal}
+use Rattle.outside_io.specs.Causes.{HasCause}
+use Rattle.outside_io.specs.Streams.{Adds, AddsFront}
+use Rattle.outside_io.specs.declared.outside.Sink.{Ghosts as SinkGhosts}
+use Rattle.outside_io.specs.declared.outside.SinkFailed.{SinkFailed}
 use Rattle.reply_pieces.specs.declared.Piece.{Piece}
 use Rattle.reply_pieces.specs.declared.Piece.TheVariants.{Text, Number}
 
@@ -19,6 +22,8 @@ abbrev pub joined : List (List ℕ) → List ℕ
 joined [] = []
 joined (part ∷ parts) = part ++ joined parts
 
--- a front of the text was added, and the rest is held back
-abbrev pub HoldsBack : List ℕ → List ℕ → Option (List ℕ) → Option (List ℕ) → Type 0
-HoldsBack text held before after = (front : List ℕ) × (front ++ held ≡ text) × Adds front before after
+-- A text was put; or, after an error, a front of it, and the sink's count of faults rose.
+pub record PutsText {A O : Type 0} (sink : SinkGhosts O) (text : List ℕ) (before now : O) (result : Result A SinkFailed) : Type 0 where
+  pub whole : OnOk result (Adds text (sink.got before) (sink.got now))
+  pub front : OnErr result (AddsFront text (sink.got before) (sink.got now))
+  pub cause : HasCause (sink.sink_faults before) (sink.sink_faults now) result

@@ -1,4 +1,4 @@
-use crate::{Piece, Reply, put_all};
+use crate::{Piece, put_all};
 use outside_io::MemSink;
 use std::test::Fail;
 
@@ -25,26 +25,6 @@ fn pieces_are_put_in_order(rt: HostRuntime) -> Result<(), Fail> {
         let mut out = MemSink::create(alloc, capacity, fails)?;
         assert_eq!(rt; put_all(&mut out, &pieces).is_ok(), whole, "at {capacity}");
         assert_eq!(rt; out.got(), want, "at {capacity}");
-    }
-    Ok(())
-}
-
-// A reply that is too long to be held back is put in two.
-#[test]
-fn a_long_reply_is_put_in_two(rt: HostRuntime) -> Result<(), Fail> {
-    let alloc = rt.alloc();
-    let long = vec![in alloc; b'x'; 1190]?;
-    let pieces = [Piece::Text(&long), Piece::Text(b"0123456789abcdef")];
-    for (fails, put, whole) in [(9, 1206, true), (1, 1190, false), (0, 0, false)] {
-        let fails = Vec::from_slice(alloc, &[fails])?;
-        let mut out = MemSink::create(alloc, 2000, fails)?;
-        let mut reply = Reply::new();
-        assert_eq!(rt;
-            reply.add_all(&pieces, &mut out).is_ok(),
-            whole,
-            "for {put}"
-        );
-        assert_eq!(rt; out.got().len(), put, "for {put}");
     }
     Ok(())
 }
