@@ -1,17 +1,16 @@
-//! The report of a memory: its sizes, and a line for each block.
+//! The report of a memory: its sizes, and a line for each block and for each user of the cache.
 #![tactic(auto)]
 
-ghost use Rattle.std.specs.Prelude.{◌≡◌, ◌++◌, OnOk, OnErr, slice_get};
-ghost use Rattle.outside_io.specs.Causes.{HasCause};
-ghost use Rattle.outside_io.specs.Streams.{Adds, AddsFront};
+ghost use Rattle.std.specs.Prelude.{◌≡◌, slice_get};
 ghost use Rattle.mem_model.specs.Told.{row_of, row_answer};
-ghost use Rattle.reply_pieces.specs.Pieces.{HoldsBack};
-ghost use Rattle.block_report.specs.Reports.{summary, rows_of, label, row_line, part_lines, parts, lines_of, rover_line, report_text};
+ghost use Rattle.reply_pieces.specs.Pieces.{PutsText};
+ghost use Rattle.block_report.specs.Reports.{rows_of, title, label, row_line, part_lines};
+ghost use Rattle.block_report.specs.Reports.{sizes_line, rover_line, user_line, user_lines, section_text, report_text};
 
 use base_fields::before_zero;
 use mem_model::{BlockRow, Store};
 use outside_io::{Sink, SinkFailed};
-use reply_pieces::{Piece, Reply};
+use reply_pieces::{Piece, put_all};
 
 /// A part of the memory that has blocks of its own.
 #[derive(Clone, Copy)]
@@ -19,10 +18,32 @@ enum Part {
     Low,
     High,
     Zone,
+    Cache,
 }
 
-// The parts in the order of a report.
-const PARTS: [Part; 3] = [Part::Low, Part::High, Part::Zone];
+/// What a report says of one thing.
+#[derive(Clone, Copy)]
+enum Section {
+    /// The sizes, and whether a temporary block is active.
+    Sizes,
+    /// The blocks of a part.
+    Blocks(Part),
+    /// The rover of the zone.
+    Rover,
+    /// The users of the cache.
+    Users,
+}
+
+// The sections in the order of a report.
+const SECTIONS: [Section; 7] = [
+    Section::Sizes,
+    Section::Blocks(Part::Low),
+    Section::Blocks(Part::High),
+    Section::Blocks(Part::Zone),
+    Section::Rover,
+    Section::Blocks(Part::Cache),
+    Section::Users,
+];
 
 impl Part {
     // The block of a number, from the lowest place upwards.
@@ -33,84 +54,72 @@ impl Part {
             Part::Low => store.low_row(number),
             Part::High => store.high_row(number),
             Part::Zone => store.zone_row(number),
+            Part::Cache => store.cache_row(number),
         }
     }
 
-    // What the line of a block says of it.
+    fn title(self) -> &'static [u8]
+        ensures { result.now ≡ title self }
+    {
+        match self {
+            Part::Low => b"low ",
+            Part::High => b"high ",
+            Part::Zone => b"zone ",
+            Part::Cache => b"cache ",
+        }
+    }
+
+    // What the line of a block calls it.
     fn label(self, row: &BlockRow) -> &[u8]
         ensures { result.now ≡ label self (row_of row.now) }
     {
         match self {
-            Part::Low | Part::High => before_zero(&row.name),
             Part::Zone if row.used => b"used",
             Part::Zone => b"free",
+            _ => before_zero(&row.name),
         }
     }
 
-    // Adds the line of a block.
-    fn add_row<O: Sink>(
-        self,
-        row: &BlockRow,
-        reply: &mut Reply,
-        out: &mut O,
-    ) -> Result<(), SinkFailed>
-        ensures added { OnOk result (HoldsBack (reply.old ++ row_line self (row_of row.now)) reply.new (O.got out.old) (O.got out.new)) }
-        ensures part { OnErr result (AddsFront (reply.old ++ row_line self (row_of row.now)) (O.got out.old) (O.got out.new)) }
-        ensures cause { HasCause (O.sink_faults out.old) (O.sink_faults out.new) result }
+    // Puts the line of a block. That of a block in the cache has its user's number too.
+    fn put_row<O: Sink>(self, row: &BlockRow, out: &mut O) -> Result<(), SinkFailed>
+        ensures { PutsText O.Sink (row_line self (row_of row.now)) out.old out.new result }
     {
-        let title: &[u8] = match self {
-            Part::Low => b"low ",
-            Part::High => b"high ",
-            Part::Zone => b"zone ",
-        };
-        reply.add_all(
-            &[
-                Piece::Text(title),
-                Piece::Number(u64::from(row.place)),
-                Piece::Text(b" "),
-                Piece::Number(u64::from(row.size)),
-                Piece::Text(b" "),
-                Piece::Text(self.label(row)),
-                Piece::Text(b"\n"),
-            ],
-            out,
-        )
+        let title = Piece::Text(self.title());
+        let place = Piece::Number(u64::from(row.place));
+        let size = Piece::Number(u64::from(row.size));
+        let user = Piece::Number(u64::from(row.user));
+        let label = Piece::Text(self.label(row));
+        let space = Piece::Text(b" ");
+        let end = Piece::Text(b"\n");
+        match self {
+            Part::Cache => put_all(
+                out,
+                &[title, place, space, size, space, user, space, label, end],
+            ),
+            _ => put_all(out, &[title, place, space, size, space, label, end]),
+        }
     }
 
-    // Adds the lines of all blocks. Each is asked for once.
-    fn add_rows<M: Store, O: Sink>(
-        self,
-        store: &M,
-        reply: &mut Reply,
-        out: &mut O,
-    ) -> Result<(), SinkFailed>
-        ensures added { OnOk result (HoldsBack (reply.old ++ part_lines (M.state store.now) self) reply.new (O.got out.old) (O.got out.new)) }
-        ensures part { OnErr result (AddsFront (reply.old ++ part_lines (M.state store.now) self) (O.got out.old) (O.got out.new)) }
-        ensures cause { HasCause (O.sink_faults out.old) (O.sink_faults out.new) result }
+    // Puts the lines of all blocks. Each is asked for once.
+    fn put_rows<M: Store, O: Sink>(self, store: &M, out: &mut O) -> Result<(), SinkFailed>
+        ensures { PutsText O.Sink (part_lines (M.state store.now) self) out.old out.new result }
     {
         // There are fewer blocks than bytes.
         for number in 0..store.size() {
             let Some(row) = self.row(store, number) else {
                 return Ok(());
             };
-            if let Err(failed) = self.add_row(&row, reply, out) {
-                return Err(failed);
-            }
+            self.put_row(&row, out)?;
         }
         Ok(())
     }
 }
 
-fn add_summary<M: Store, O: Sink>(
-    store: &M,
-    reply: &mut Reply,
-    out: &mut O,
-) -> Result<(), SinkFailed>
-    ensures added { OnOk result (HoldsBack (reply.old ++ summary (M.state store.now)) reply.new (O.got out.old) (O.got out.new)) }
-    ensures part { OnErr result (AddsFront (reply.old ++ summary (M.state store.now)) (O.got out.old) (O.got out.new)) }
-    ensures cause { HasCause (O.sink_faults out.old) (O.sink_faults out.new) result }
+fn put_sizes<M: Store, O: Sink>(store: &M, out: &mut O) -> Result<(), SinkFailed>
+    ensures { PutsText O.Sink (sizes_line (M.state store.now)) out.old out.new result }
 {
-    reply.add_all(
+    put_all(
+        out,
         &[
             Piece::Text(b"hunk "),
             Piece::Number(u64::from(store.size())),
@@ -124,59 +133,74 @@ fn add_summary<M: Store, O: Sink>(
             Piece::Number(u64::from(store.temp_active())),
             Piece::Text(b"\n"),
         ],
-        out,
     )
 }
 
-// Adds the lines of all parts.
-fn add_parts<M: Store, O: Sink>(store: &M, reply: &mut Reply, out: &mut O) -> Result<(), SinkFailed>
-    ensures added { OnOk result (HoldsBack (reply.old ++ lines_of (M.state store.now) parts) reply.new (O.got out.old) (O.got out.new)) }
-    ensures part { OnErr result (AddsFront (reply.old ++ lines_of (M.state store.now) parts) (O.got out.old) (O.got out.new)) }
-    ensures cause { HasCause (O.sink_faults out.old) (O.sink_faults out.new) result }
+fn put_rover<M: Store, O: Sink>(store: &M, out: &mut O) -> Result<(), SinkFailed>
+    ensures { PutsText O.Sink (rover_line (M.state store.now)) out.old out.new result }
 {
-    for part in PARTS {
-        if let Err(failed) = part.add_rows(store, reply, out) {
-            return Err(failed);
-        }
-    }
-    Ok(())
-}
-
-fn add_rover<M: Store, O: Sink>(store: &M, reply: &mut Reply, out: &mut O) -> Result<(), SinkFailed>
-    ensures added { OnOk result (HoldsBack (reply.old ++ rover_line (M.state store.now)) reply.new (O.got out.old) (O.got out.new)) }
-    ensures part { OnErr result (AddsFront (reply.old ++ rover_line (M.state store.now)) (O.got out.old) (O.got out.new)) }
-    ensures cause { HasCause (O.sink_faults out.old) (O.sink_faults out.new) result }
-{
-    reply.add_all(
+    put_all(
+        out,
         &[
             Piece::Text(b"rover "),
             Piece::Number(u64::from(store.rover())),
             Piece::Text(b"\n"),
         ],
-        out,
     )
 }
 
-/// Puts the sizes of the memory, a line for each block, and the place of the zone's rover: the blocks of the low hunk, those
-/// of the high hunk and those of the zone, each in rising order of place.
-///
-/// It takes no memory, and asks the store for each block once, in order. A failure has put a front of the text.
-pub fn report<M: Store, O: Sink>(store: &M, out: &mut O) -> Result<(), SinkFailed>
-    ensures added { OnOk result (Adds (report_text (M.state store.now)) (O.got out.old) (O.got out.new)) }
-    ensures part { OnErr result (AddsFront (report_text (M.state store.now)) (O.got out.old) (O.got out.new)) }
-    ensures cause { HasCause (O.sink_faults out.old) (O.sink_faults out.new) result }
+fn put_user<O: Sink>(user: u32, out: &mut O) -> Result<(), SinkFailed>
+    ensures { PutsText O.Sink (user_line user) out.old out.new result }
 {
-    let mut reply = Reply::new();
-    if let Err(failed) = add_summary(store, &mut reply, out) {
-        return Err(failed);
+    put_all(
+        out,
+        &[
+            Piece::Text(b"lru "),
+            Piece::Number(u64::from(user)),
+            Piece::Text(b"\n"),
+        ],
+    )
+}
+
+// Puts a line for each user of the cache, the most recently used first.
+fn put_users<M: Store, O: Sink>(store: &M, out: &mut O) -> Result<(), SinkFailed>
+    ensures { PutsText O.Sink (user_lines (M.state store.now).cache.recency) out.old out.new result }
+{
+    // There are fewer users than bytes.
+    for number in 0..store.size() {
+        let Some(user) = store.lru_user(number) else {
+            return Ok(());
+        };
+        put_user(user, out)?;
     }
-    if let Err(failed) = add_parts(store, &mut reply, out) {
-        return Err(failed);
+    Ok(())
+}
+
+impl Section {
+    fn put<M: Store, O: Sink>(self, store: &M, out: &mut O) -> Result<(), SinkFailed>
+        ensures { PutsText O.Sink (section_text (M.state store.now) self) out.old out.new result }
+    {
+        match self {
+            Section::Sizes => put_sizes(store, out),
+            Section::Blocks(part) => part.put_rows(store, out),
+            Section::Rover => put_rover(store, out),
+            Section::Users => put_users(store, out),
+        }
     }
-    if let Err(failed) = add_rover(store, &mut reply, out) {
-        return Err(failed);
+}
+
+/// Puts the sizes of the memory, a line for each block of the low hunk, the high hunk and the zone, the place of the zone's
+/// rover, a line for each block of the cache, and one for each of its users. The blocks go by rising place, the users from the
+/// most recently used on.
+///
+/// It takes no memory, and asks the store for each block and user once, in order. After an error a front of the text was put.
+pub fn report<M: Store, O: Sink>(store: &M, out: &mut O) -> Result<(), SinkFailed>
+    ensures { PutsText O.Sink (report_text (M.state store.now)) out.old out.new result }
+{
+    for section in SECTIONS {
+        section.put(store, out)?;
     }
-    reply.finish(out)
+    Ok(())
 }
 
 #[cfg(test)]

@@ -1,25 +1,23 @@
-use Rattle.reply_pieces.proofs.Holding.{held_all, all_ok, failed_last}
-use Rattle.block_report.specs.Reports.{report_text}
-use Rattle.block_report.proofs.Adding.{cut_summary, cut_parts, cut_rover, after_rover}
+use Rattle.std.proofs.Common.{◌+◌, drop, ap, arith}
+use Rattle.std.proofs.lemmas.List.{drop_more}
+use Rattle.std.proofs.lemmas.Result.{err_from_is_err_and}
+use Rattle.reply_pieces.proofs.Putting.{none_put, part_put, part_cut}
+use Rattle.block_report.specs.Reports.{sections, sections_text, report_text}
 use Rattle.block_report.proofs.report.Goals as goal
 
-pub returns-in-Err-clause-part : goal.returns-in-Err-clause-part
-returns-in-Err-clause-part g c = cut_summary (g.M.Store.state c.args.store.now) _ _ c.new-reply.ensures _ c.in-Err.ensures.part
+pub loop-section-init : goal.loop-section-init
+unfolding report_text
+loop-section-init g c = none_put g.O.Sink (report_text (g.M.Store.state c.args.store.now)) c.args.out.now
 
-pub returns-in-Err-add_parts-clause-part : goal.returns-in-Err-add_parts-clause-part
-returns-in-Err-add_parts-clause-part g c = cut_parts (g.M.Store.state c.args.store.now) _ _ c.new-reply.ensures _ _ c.in_default.ensures.added _ c.in-Err-add_parts.ensures.part
-
-pub returns-in-Err-add_rover-clause-part : goal.returns-in-Err-add_rover-clause-part
-returns-in-Err-add_rover-clause-part g c = cut_rover (g.M.Store.state c.args.store.now) _ _ c.new-reply.ensures _ _ c.in_default.ensures.added _ _ c.in_default-add_parts.ensures.added _ c.in-Err-add_rover.ensures.part
-
-pub returns-clause-added : goal.returns-clause-added
-returns-clause-added g c =
+pub returns-in_err-put : goal.returns-in_err-put
+returns-in_err-put g c =
     let m = g.M.Store.state c.args.store.now in
-    let so_far = after_rover m _ _ c.new-reply.ensures _ _ c.in_default.ensures.added _ _ c.in_default-add_parts.ensures.added _ _ c.in_default-add_rover.ensures.added in
-    all_ok c.finish.result (report_text m) c.add_rover.new.reply _ _ _ (held_all (report_text m) c.add_rover.new.reply _ _ so_far) c.finish.ensures.added
+    let p = err_from_is_err_and c.from_residual.result c.from_residual.ensures.1 in
+    rw (p.1, p.2) (part_cut g.O.Sink (report_text m) _ _ c.loop-section.invariant
+    (ap (sections_text m) (drop_more sections c.loop-section.section-index _ (omega arith))) c.in_err-put.ensures)
 
-pub returns-clause-part : goal.returns-clause-part
-returns-clause-part g c =
+pub loop-section-preserved : goal.loop-section-preserved
+loop-section-preserved g c =
     let m = g.M.Store.state c.args.store.now in
-    let so_far = after_rover m _ _ c.new-reply.ensures _ _ c.in_default.ensures.added _ _ c.in_default-add_parts.ensures.added _ _ c.in_default-add_rover.ensures.added in
-    failed_last c.finish.result (report_text m) c.add_rover.new.reply _ _ _ so_far c.finish.ensures.part
+    part_put g.O.Sink (report_text m) _ (sections_text m (drop (c.loop-section.section-index + 1) sections)) c.loop-section.invariant
+    (ap (sections_text m) (drop_more sections c.loop-section.section-index _ (omega arith))) c.in_ok-put.ensures
