@@ -6,10 +6,7 @@ pub mod Lining
 pub mod Loading
 pub mod Holding
 pub mod Knowing
-pub mod Listing
 pub mod Marking
-pub mod Mounting
-pub mod Putting
 pub mod Valuing
 pub mod Taking
 pub mod Wording

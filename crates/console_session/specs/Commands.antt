@@ -161,9 +161,12 @@ abbrev pub alias_lines : List AliasText → List ℕ
 alias_lines [] = []
 alias_lines (a ∷ older) = alias_line a ++ alias_lines older
 
+abbrev pub alias_list : List AliasText → List ℕ
+alias_list aliases = codes "Current alias commands:\n" ++ alias_lines aliases
+
 -- `alias` alone shows all aliases
 abbrev pub list_aliases : State → Did
-list_aliases s = says s Goes (codes "Current alias commands:\n" ++ alias_lines (alias_texts s.memory s.newest))
+list_aliases s = says s Goes (alias_list (alias_texts s.memory s.newest))
 
 abbrev pub long_name_text : List ℕ
 long_name_text = joined (codes "Alias name is too long\n" ∷ [])

@@ -1,13 +1,13 @@
 // The replies of commands. Each text is decided here once.
-ghost use Rattle.std.specs.Prelude.{◌≡◌, ◌++◌, ◌∷◌, [], drop, OnOk, OnErr, false, codes};
-ghost use Rattle.outside_io.specs.Causes.{HasCause};
+ghost use Rattle.std.specs.Prelude.{◌∷◌, [], Ok, drop, false, codes};
 ghost use Rattle.search_paths.specs.Path.{rows_of};
-ghost use Rattle.outside_io.specs.Streams.{AddsFront};
-ghost use Rattle.reply_pieces.specs.Pieces.{text_of, joined, HoldsBack};
+ghost use Rattle.reply_pieces.specs.Pieces.{text_of, joined, PutsText};
 ghost use Rattle.cmd_buffer.specs.Aliases.{HoldsAliases, alias_texts};
 ghost use Rattle.block_report.specs.Reports.{report_text};
 ghost use Rattle.console_session.specs.Telling.{Puts, load_told, block_told, cvar_told, alias_told};
-ghost use Rattle.console_session.specs.Commands.{missing_text, beyond_text, short_text, full_text, long_name_text, block_text, spaced, exec_text, file_text, cvar_text, alias_lines, expansion_text, unknown_text, mount_line, mount_lines};
+ghost use Rattle.console_session.specs.Commands.{missing_text, beyond_text, short_text, full_text, long_name_text, block_text};
+ghost use Rattle.console_session.specs.Commands.{spaced, exec_text, file_text, cvar_text, expansion_text, unknown_text};
+ghost use Rattle.console_session.specs.Commands.{alias_line, alias_lines, alias_list, mount_line, mount_lines};
 
 use crate::ends::{Fault, Next};
 use base_fields::GameName;
@@ -16,7 +16,7 @@ use cmd_buffer::{AliasError, Aliases, Words};
 use file_load::LoadError;
 use mem_model::{Place, RoomError, Store, ZoneError};
 use outside_io::{Folder, Sink, SinkFailed};
-use reply_pieces::{Piece, Reply, put_all};
+use reply_pieces::{Piece, put_all};
 use search_paths::{MountRow, Paths};
 
 // A path has 65536 folders at most, each with 32 packs at most.
@@ -272,26 +272,24 @@ pub fn put_report<M: Store, O: Sink>(store: &M, out: &mut O) -> Result<Next, Fau
     }
 }
 
-// Adds the line of a mount.
-fn add_mount<O: Sink>(mount: MountRow, lines: &mut Reply, out: &mut O) -> Result<(), SinkFailed>
-    ensures added { OnOk result (HoldsBack (lines.old ++ mount_line mount) lines.new (O.got out.old) (O.got out.new)) }
-    ensures part { OnErr result (AddsFront (lines.old ++ mount_line mount) (O.got out.old) (O.got out.new)) }
-    ensures cause { HasCause (O.sink_faults out.old) (O.sink_faults out.new) result }
+fn put_mount<O: Sink>(mount: MountRow, out: &mut O) -> Result<(), SinkFailed>
+    ensures { PutsText O.Sink (mount_line mount) out.old out.new result }
 {
     match mount {
-        MountRow::Folder { folder } => lines.add_all(
+        MountRow::Folder { folder } => put_all(
+            out,
             &[
                 Piece::Text(b"folder "),
                 Piece::Number(u64::from(folder)),
                 Piece::Text(b"\n"),
             ],
-            out,
         ),
         MountRow::Pack {
             folder,
             pack,
             count,
-        } => lines.add_all(
+        } => put_all(
+            out,
             &[
                 Piece::Text(b"pack "),
                 Piece::Number(u64::from(folder)),
@@ -301,29 +299,18 @@ fn add_mount<O: Sink>(mount: MountRow, lines: &mut Reply, out: &mut O) -> Result
                 Piece::Number(u64::from(count)),
                 Piece::Text(b" files\n"),
             ],
-            out,
         ),
     }
 }
 
-// Adds the lines of the mounts, from the front of the path.
-fn add_mounts<F: Folder, O: Sink>(
-    paths: &Paths<F>,
-    lines: &mut Reply,
-    out: &mut O,
-) -> Result<(), SinkFailed>
-    ensures added { OnOk result
-        (HoldsBack (lines.old ++ mount_lines (rows_of paths.now)) lines.new (O.got out.old) (O.got out.new)) }
-    ensures part { OnErr result (AddsFront (lines.old ++ mount_lines (rows_of paths.now)) (O.got out.old) (O.got out.new)) }
-    ensures cause { HasCause (O.sink_faults out.old) (O.sink_faults out.new) result }
+fn put_mount_lines<F: Folder, O: Sink>(paths: &Paths<F>, out: &mut O) -> Result<(), SinkFailed>
+    ensures { PutsText O.Sink (mount_lines (rows_of paths.now)) out.old out.new result }
 {
     for number in 0..MOST_MOUNTS {
         let Some(mount) = paths.row(number) else {
             return Ok(());
         };
-        if let Err(failed) = add_mount(mount, lines, out) {
-            return Err(failed);
-        }
+        put_mount(mount, out)?;
     }
     Ok(())
 }
@@ -332,18 +319,7 @@ fn add_mounts<F: Folder, O: Sink>(
 pub fn put_mounts<F: Folder, O: Sink>(paths: &Paths<F>, out: &mut O) -> Result<Next, Fault>
     ensures { Puts O.Sink (Ok (mount_lines (rows_of paths.now))) Next.Goes out.old out.new result }
 {
-    let mut lines = Reply::new();
-    if let Err(_) = add_mounts(paths, &mut lines, out) {
-        return Err(Fault::Write);
-    }
-    end_lines(lines, out)
-}
-
-// Puts what is held back of some lines.
-fn end_lines<O: Sink>(lines: Reply, out: &mut O) -> Result<Next, Fault>
-    ensures { Puts O.Sink (Ok (lines)) Next.Goes out.old out.new result }
-{
-    match lines.finish(out) {
+    match put_mount_lines(paths, out) {
         Ok(()) => Ok(Next::Goes),
         Err(_) => Err(Fault::Write),
     }
@@ -363,18 +339,67 @@ pub fn put_executed<O: Sink>(out: &mut O, name: &GameName, inserted: bool) -> Re
     )
 }
 
+fn put_words<O: Sink>(words: &Words<'_>, out: &mut O) -> Result<(), SinkFailed>
+    ensures { PutsText O.Sink (spaced (drop 1 words.now)) out.old out.new result }
+{
+    let mut left = words.rest();
+    'words: while let Some(word) = left.first() {
+        put_all(out, &[Piece::Text(word), Piece::Text(b" ")])?;
+        left = left.rest();
+    }
+    put_all(out, &[Piece::Text(b"\n")])
+}
+
 // Each word after the first and a space, and a newline.
 pub fn put_echo<O: Sink>(words: &Words<'_>, out: &mut O) -> Result<Next, Fault>
     ensures { Puts O.Sink (Ok (spaced (drop 1 words.now))) Next.Goes out.old out.new result }
 {
-    let mut left = words.rest();
-    'words: while let Some(word) = left.first() {
-        if let Err(_) = put_all(out, &[Piece::Text(word), Piece::Text(b" ")]) {
-            return Err(Fault::Write);
-        }
-        left = left.rest();
+    match put_words(words, out) {
+        Ok(()) => Ok(Next::Goes),
+        Err(_) => Err(Fault::Write),
     }
-    reply(out, &[Piece::Text(b"\n")])
+}
+
+fn put_alias<'a, O: Sink>(name: &'a [u8], value: &'a [u8], out: &mut O) -> Result<(), SinkFailed>
+    ensures { PutsText O.Sink (alias_line (record { name = name.now; value = value.now })) out.old out.new result }
+{
+    put_all(
+        out,
+        &[
+            Piece::Text(name),
+            Piece::Text(b" : "),
+            Piece::Text(value),
+            Piece::Text(b"\n"),
+        ],
+    )
+}
+
+fn put_alias_lines<M: Store, O: Sink>(
+    store: &M,
+    aliases: &Aliases,
+    out: &mut O,
+) -> Result<(), SinkFailed>
+    requires { HoldsAliases (M.state store.now) aliases.now }
+    ensures { PutsText O.Sink (alias_lines (alias_texts (M.state store.now) aliases.now)) out.old out.new result }
+{
+    let mut left = *aliases;
+    'aliases: while let Some((name, value)) = left.row(store, 0) {
+        put_alias(name, value, out)?;
+        left = left.older(store);
+    }
+    Ok(())
+}
+
+fn put_alias_list<M: Store, O: Sink>(
+    store: &M,
+    aliases: &Aliases,
+    out: &mut O,
+) -> Result<(), SinkFailed>
+    requires { HoldsAliases (M.state store.now) aliases.now }
+    ensures { PutsText O.Sink (alias_list (alias_texts (M.state store.now) aliases.now)) out.old out.new result }
+{
+    put_all(out, &[Piece::Text(b"Current alias commands:\n")])?;
+    put_alias_lines(store, aliases, out)
 }
 
 // Shows the aliases, the newest first.
@@ -384,30 +409,10 @@ pub fn put_aliases<M: Store, O: Sink>(
     out: &mut O,
 ) -> Result<Next, Fault>
     requires { HoldsAliases (M.state store.now) aliases.now }
-    ensures { Puts O.Sink
-        (Ok (codes "Current alias commands:\n" ++ alias_lines (alias_texts (M.state store.now) aliases.now)))
-        Next.Goes out.old out.new result }
+    ensures { Puts O.Sink (Ok (alias_list (alias_texts (M.state store.now) aliases.now))) Next.Goes
+        out.old out.new result }
 {
-    let mut lines = Reply::new();
-    if let Err(_) = lines.add(&Piece::Text(b"Current alias commands:\n"), out) {
-        return Err(Fault::Write);
-    }
-    let mut left = *aliases;
-    'aliases: while let Some((name, value)) = left.row(store, 0) {
-        if let Err(_) = lines.add_all(
-            &[
-                Piece::Text(name),
-                Piece::Text(b" : "),
-                Piece::Text(value),
-                Piece::Text(b"\n"),
-            ],
-            out,
-        ) {
-            return Err(Fault::Write);
-        }
-        left = left.older(store);
-    }
-    match lines.finish(out) {
+    match put_alias_list(store, aliases, out) {
         Ok(()) => Ok(Next::Goes),
         Err(_) => Err(Fault::Write),
     }

@@ -1,5 +1,6 @@
 -- A text that is put part by part.
-use Rattle.std.proofs.Common.{◌≡◌, ◌≤◌, ℕ, List, [], ◌++◌, Ok, Err, subst, arith}
+use Rattle.std.proofs.Common.{◌≡◌, ◌≤◌, ℕ, List, [], ◌++◌, Result, Ok, Err, refl, sym, subst, arith}
+use Rattle.std.proofs.lemmas.List.{append-nil}
 use Rattle.outside_io.proofs.Puts.{PutSoFar, nothing_put, one_put, front_put, all_put}
 use Rattle.outside_io.specs.declared.outside.Sink.{Ghosts as SinkGhosts}
 use Rattle.outside_io.specs.declared.outside.SinkFailed.{SinkFailed}
@@ -44,3 +45,10 @@ module _ {O : Type 0} (sink : SinkGhosts O) where
     front = tt;
     cause = record { never_falls = so_far.faults; failed = tt };
   }
+
+  -- what is left was put as a whole, or cut off
+  pub rest_put : {A : Type 0} {text left : List ℕ} {start mid now : O} (result : Result A SinkFailed) → PutsSoFar text left start mid →
+      PutsText sink left mid now result → PutsText sink text start now result
+  rest_put {A} {text} {left} {start} {mid} (Ok answer) so_far puts =
+      all_was_put (part_put text left [] so_far (sym (append-nil left)) puts) refl
+  rest_put {A} {text} {left} (Err failed) so_far puts = part_cut text left [] so_far (sym (append-nil left)) puts

@@ -4,7 +4,7 @@ use Rattle.std.proofs.lemmas.Result.{err_from_is_err_and}
 use Rattle.reply_pieces.proofs.Putting.{part_put, part_cut, all_was_put}
 use Rattle.block_report.specs.Reports.{rows_of, row_lines, part_lines}
 use Rattle.block_report.proofs.Few.{few_rows}
-use Rattle.block_report.proofs.Lines.{past, next}
+use Rattle.reply_pieces.proofs.Lines.{past, next}
 use Rattle.block_report.proofs.Part.put_rows.Goals as goal
 
 pub returns-in_default : goal.returns-in_default
