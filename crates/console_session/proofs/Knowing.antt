@@ -78,6 +78,7 @@ module _ (s : State) (mounts : List Mount) (told : AllTold s mounts) where
     knows_verb (Some verb.Report) = refl
     knows_verb (Some verb.Alias) = by_test s (eqb (length words) 1) (list_aliases s) (make_alias words s) refl refl
     knows_verb (Some verb.Path) = refl
+    knows_verb (Some verb.Flush) = refl
 
     knows_words : Knows s (by_words words s)
     knows_words = by_test s (eqb (length words) 0) (says s Goes []) (by_verb (verb_of (word_at 0 words)) words s) refl (knows_verb (verb_of (word_at 0 words)))

@@ -9,7 +9,7 @@ use Rattle.file_load.specs.Loads.{Load, Load.Missing, Load.Beyond, Load.NoRoom, 
 use Rattle.mem_model.specs.Memory.{Memory, low_used}
 use Rattle.mem_model.specs.Answer.{Answered}
 use Rattle.mem_model.specs.Event.{Shortage}
-use Rattle.mem_model.specs.Operations.{low_alloc, low_free, high_alloc, high_mark, high_free}
+use Rattle.mem_model.specs.Operations.{low_alloc, low_free, high_alloc, high_mark, high_free, flush}
 use Rattle.block_report.specs.Reports.{report_text}
 use Rattle.cmd_buffer.specs.Words.{words_of}
 use Rattle.cmd_buffer.specs.Buffer.{cut, kept}
@@ -149,6 +149,10 @@ answer_path s = says s Goes (mount_lines s.path.rows)
 abbrev pub answer_report : State → Did
 answer_report s = says s Goes (report_text s.memory)
 
+-- the cache loses all blocks
+abbrev pub answer_flush : State → Did
+answer_flush s = says (record s { memory = (flush s.memory).after }) Goes []
+
 -- a block of the zone of this size was refused
 abbrev pub full_text : ℕ → List ℕ
 full_text asked = joined (codes "zone full: " ∷ decimal asked ∷ codes " bytes\n" ∷ [])
@@ -252,6 +256,7 @@ by_verb (Some verb.Level) words s = answer_level s
 by_verb (Some verb.Report) words s = answer_report s
 by_verb (Some verb.Alias) words s = answer_alias words s
 by_verb (Some verb.Path) words s = answer_path s
+by_verb (Some verb.Flush) words s = answer_flush s
 
 -- a text without words does nothing
 abbrev pub by_words : List (List ℕ) → State → Did

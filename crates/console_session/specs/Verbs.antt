@@ -25,6 +25,7 @@ verbs =
     named (codes "report") verb.Report ∷
     named (codes "alias") verb.Alias ∷
     named (codes "path") verb.Path ∷
+    named (codes "flush") verb.Flush ∷
     []
 
 -- the first of these that a word names, in any case

@@ -17,6 +17,7 @@ pub enum Verb {
     Report,
     Alias,
     Path,
+    Flush,
 }
 
 // Whether the two are the same but for the case of their letters.
@@ -62,6 +63,9 @@ pub fn find_verb(word: &[u8]) -> Option<Verb>
     }
     if is_same(word, b"path") {
         return Some(Verb::Path);
+    }
+    if is_same(word, b"flush") {
+        return Some(Verb::Flush);
     }
     None
 }

@@ -6,7 +6,7 @@ ghost use Rattle.mem_model.specs.Operations.{low_free};
 ghost use Rattle.file_load.specs.Loads.{load_low, Loads};
 ghost use Rattle.console_session.specs.Holding.{Holds};
 ghost use Rattle.console_session.specs.Serving.{seen, Does, KeepsRest};
-ghost use Rattle.console_session.specs.Commands.{answer_echo, answer_file, answer_exec, answer_reserve, answer_video, answer_level, answer_report, answer_path, fits_in};
+ghost use Rattle.console_session.specs.Commands.{answer_echo, answer_file, answer_exec, answer_reserve, answer_video, answer_level, answer_report, answer_path, answer_flush, fits_in};
 
 use crate::console::Console;
 use crate::console::values::insert;
@@ -163,6 +163,14 @@ impl<M: Store, F: Folder> Console<M, F> {
         ensures { Does M.Store F.Folder O.Sink answer_report self.old self.new out.old out.new result }
     {
         put_report(&self.store, out)
+    }
+
+    pub(super) fn flush_cache<O: Sink>(&mut self, out: &mut O) -> Result<Next, Fault>
+        requires holds { Holds (seen M.Store F.Folder self.old) }
+        ensures { Does M.Store F.Folder O.Sink answer_flush self.old self.new out.old out.new result }
+    {
+        self.store.flush();
+        reply(out, &[])
     }
 
     pub(super) fn list_path<O: Sink>(&mut self, out: &mut O) -> Result<Next, Fault>

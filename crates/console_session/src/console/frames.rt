@@ -47,6 +47,7 @@ impl<M: Store, F: Folder> Console<M, F> {
             Some(Verb::Report) => self.report_blocks(out),
             Some(Verb::Alias) => self.alias(words, out),
             Some(Verb::Path) => self.list_path(out),
+            Some(Verb::Flush) => self.flush_cache(out),
         }
     }
 

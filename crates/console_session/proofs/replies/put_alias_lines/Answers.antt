@@ -20,7 +20,7 @@ aliases-preserved g c =
     record {
       holds = c.older-left.ensures.holds;
       put = rw c.older-left.ensures.rest (part_put g.O.Sink (alias_lines (alias_texts m c.args.aliases.now)) _ (alias_lines (drop 1 (alias_texts m c.aliases.left)))
-      c.aliases.invariant.put (ap alias_lines (next (alias_texts m c.aliases.left) 0 (sym c.in-Some.ensures.row))) c.in_ok-put_alias.ensures);
+          c.aliases.invariant.put (ap alias_lines (next (alias_texts m c.aliases.left) 0 (sym c.in-Some.ensures.row))) c.in_ok-put_alias.ensures);
     }
 
 pub returns : goal.returns

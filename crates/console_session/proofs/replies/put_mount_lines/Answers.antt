@@ -25,7 +25,7 @@ loop-number-preserved g c =
     let rows = rows_of c.args.paths.now in
     record {
       put = part_put g.O.Sink (mount_lines rows) _ (mount_lines (drop (c.loop-number.number + 1) rows)) c.loop-number.invariant.put
-      (ap mount_lines (next rows c.loop-number.number c.in-Some.ensures.row)) c.in_ok-put_mount.ensures;
+          (ap mount_lines (next rows c.loop-number.number c.in-Some.ensures.row)) c.in_ok-put_mount.ensures;
       few = λ some. c.in-Some.ensures.few;
     }
 

@@ -20,6 +20,6 @@ words-preserved g c =
     (ap spaced (words_split c.words.left c.in-Some.word.now c.in-Some.ensures)) c.in_ok-put_all.ensures)
 
 pub returns : goal.returns
-returns g c = rest_put g.O.Sink c.put_all.result
+returns g c = rest_put g.O.Sink c.put_all-2.result
     (subst (λ l. PutsSoFar g.O.Sink (spaced (drop 1 c.args.words.now)) l c.args.out.now c.words.out) (ap spaced (words_end c.words.left c.in_default.ensures))
-    c.words.invariant) c.put_all.ensures
+    c.words.invariant) c.put_all-2.ensures
