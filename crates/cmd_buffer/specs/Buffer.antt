@@ -1,7 +1,20 @@
 -- Commands, cut from the front of a buffer.
-use Rattle.std.specs.Prelude.{◌≡◌, ℕ, ◌%◌, Bool, true, false, ◌&&◌, ◌||◌, ◌==◌, nat_le, if◌then◌else◌, List, [], ◌∷◌, ◌++◌, length, count_by, Option, Some, None}
+use Rattle.std.specs.Prelude.{◌≡◌, ℕ, ◌+◌, ◌%◌, Bool, true, false, ◌&&◌, ◌||◌, ◌==◌, nat_le, if◌then◌else◌, List, [], ◌∷◌, ◌++◌, length, count_by, Option, Some, None}
+use Rattle.base_fields.specs.Texts.{until_zero}
 use Rattle.cmd_buffer.specs.declared.buffer.Taken.{Taken}
 use Rattle.cmd_buffer.specs.declared.buffer.Taken.TheVariants.{Text, TooLong}
+
+-- how many bytes a buffer holds
+abbrev pub space : ℕ
+space = 8191
+
+-- a text has room beside what a buffer has
+abbrev pub fits_in : List ℕ → List ℕ → Bool
+fits_in text buffer = nat_le (length buffer + length text) space
+
+-- what an input line adds to the buffer: it up to its first zero byte, and a newline
+abbrev pub input : List ℕ → List ℕ
+input text = until_zero text ++ 10 ∷ []
 
 -- a command, and what follows it in the buffer
 pub record Cut : Type 0 where

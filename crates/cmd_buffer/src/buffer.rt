@@ -1,9 +1,11 @@
 // The buffer that command texts are taken from.
-ghost use Rattle.std.specs.Prelude.{◌≡◌, ◌↔◌, ◌<◌, ◌≤◌, ◌+◌, ◌-◌, ◌++◌, ◌==◌, ◌&&◌, ◌||◌, List, [], length, take, drop, option_map, OnOk, OnErr, IsErr};
+ghost use Rattle.std.specs.Prelude.{◌≡◌, ◌↔◌, ◌<◌, ◌≤◌, ◌+◌, ◌-◌, ◌++◌, ◌==◌, ◌&&◌, ◌||◌, List, [], length, take, drop, option_map, OnOk, OnErr, IsErr, is_ok, if◌then◌else◌};
 ghost use Rattle.arrayvec.specs.ArrayVec.{array_vec_len};
-ghost use Rattle.cmd_buffer.specs.Buffer.{cut, IsCut, first_command, taken_text, kept};
+ghost use Rattle.mem_model.specs.Laid.{IsText};
+ghost use Rattle.cmd_buffer.specs.Buffer.{fits_in, input, cut, IsCut, first_command, taken_text, kept};
 
 use arrayvec::ArrayVec;
+use base_fields::before_zero;
 use std::marker::Model;
 
 // How many bytes a buffer holds.
@@ -71,6 +73,21 @@ impl CmdBuffer {
         self.taken = make_room(&mut self.bytes, self.taken, text.len());
         self.bytes.try_extend_from_slice(text).unwrap();
         Ok(())
+    }
+
+    /// Adds a line up to its first zero byte, and a newline; or changes nothing where more than 8191 bytes would be used.
+    pub fn add_line(&mut self, line: &[u8]) -> Result<(), Overflow>
+        ensures full { is_ok result ≡ fits_in (input line.now) self.old }
+        ensures added { self.new
+            ≡ (if fits_in (input line.now) self.old then self.old ++ input line.now else self.old) }
+        ensures text { IsText self.old → IsText self.new }
+    {
+        let text = before_zero(line);
+        if SPACE <= self.used() + text.len() {
+            return Err(Overflow);
+        }
+        self.add(text).unwrap();
+        self.add(b"\n")
     }
 
     /// Puts the text in front, or changes nothing where more than 8191 bytes would be used.

@@ -5,9 +5,9 @@ use Rattle.std.specs.Prelude.{◌⊎◌}
 use Rattle.std.proofs.lemmas.Bool.{lt-leb}
 use Rattle.std.proofs.lemmas.Bool.Decides.{eqb_tells}
 use Rattle.base_fields.specs.Texts.{until_zero}
+use Rattle.cmd_buffer.specs.Buffer.{fits_in, input}
 use Rattle.console_session.specs.States.{State}
-use Rattle.console_session.specs.Commands.{fits_in}
-use Rattle.console_session.specs.Frames.{Ran, frame, input, line, overflowed}
+use Rattle.console_session.specs.Frames.{Ran, frame, line, overflowed}
 
 -- what a front keeps of a text is what it keeps of a front of the text and more
 pub take_front : (n : ℕ) (text more : List ℕ) → take n (take n text ++ more) ≡ take n (text ++ more)

@@ -6,14 +6,14 @@ use Rattle.mem_model.specs.Memory.{Memory}
 use Rattle.search_paths.specs.Mounts.{Mount, find_in}
 use Rattle.search_paths.proofs.FindLaws.{find_told-all}
 use Rattle.cmd_buffer.specs.Aliases.{alias_value}
-use Rattle.cmd_buffer.specs.Buffer.{cut, kept}
+use Rattle.cmd_buffer.specs.Buffer.{fits_in, input, cut, kept}
 use Rattle.cmd_buffer.specs.Words.{words_of}
 use Rattle.cvar_table.specs.Cvars.{cvar_value}
 use Rattle.file_load.specs.Loads.{Load, Missing, Beyond, NoRoom, At, Loading, load_low, low_load}
 use Rattle.console_session.specs.States.{State, Done, Did, Told, Untold, says}
-use Rattle.console_session.specs.Commands.{word_at, with_load, with_told, by_load, filed, executed, of_number_and_name, reserved, video_set, list_aliases, make_alias, make_cvar, cvar_text, by_cvar, by_alias, by_verb, by_words, by_text, command, fits_in, name_in, number_in}
+use Rattle.console_session.specs.Commands.{word_at, with_load, with_told, by_load, filed, executed, of_number_and_name, reserved, video_set, list_aliases, make_alias, make_cvar, cvar_text, by_cvar, by_alias, by_verb, by_words, by_text, command, name_in, number_in}
 use Rattle.console_session.specs.Verbs.{verb_of}
-use Rattle.console_session.specs.Frames.{Ended, Ran, ending, gone_on, continued, frame, overflowed, line, input, IsRun, IsCutShort, GoesAs, Runs}
+use Rattle.console_session.specs.Frames.{Ended, Ran, ending, gone_on, continued, frame, overflowed, line, IsRun, IsCutShort, GoesAs, Runs}
 use Rattle.console_session.specs.declared.ends.Fault.{Fault}
 use Rattle.console_session.specs.declared.ends.Next.{Next}
 use Rattle.console_session.specs.declared.ends.Next.TheVariants.{Goes}

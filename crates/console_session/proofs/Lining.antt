@@ -3,9 +3,9 @@ use Rattle.std.proofs.Common.{◌≡◌, ℕ, List, [], ◌∷◌, ◌++◌, Boo
 use Rattle.std.specs.Prelude.{codes}
 use Rattle.outside_io.specs.Streams.{Adds, AddsFront}
 use Rattle.outside_io.proofs.Puts.{adds_none, adds_both}
+use Rattle.cmd_buffer.specs.Buffer.{fits_in, input}
 use Rattle.console_session.specs.States.{State, Reply, CutsOff}
-use Rattle.console_session.specs.Commands.{fits_in}
-use Rattle.console_session.specs.Frames.{Ended, Ran, plain, and_then, frame, line, overflowed, input, texts, GoesAs, IsCutShort, BeginsWith, Runs, NoneAsks}
+use Rattle.console_session.specs.Frames.{Ended, Ran, plain, and_then, frame, line, overflowed, texts, GoesAs, IsCutShort, BeginsWith, Runs, NoneAsks}
 use Rattle.console_session.specs.declared.ends.Fault.{Fault}
 use Rattle.console_session.specs.declared.ends.Fault.TheVariants as fault
 

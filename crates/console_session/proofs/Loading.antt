@@ -17,10 +17,11 @@ use Rattle.search_paths.specs.Path.{PathState, counts_of, rows_of, told_mounts, 
 use Rattle.file_load.specs.declared.errors.LoadError.{LoadError}
 use Rattle.file_load.specs.declared.errors.LoadError.TheVariants as load
 use Rattle.file_load.specs.Loads.{Load, Missing, Beyond, NoRoom, At, Loading, Loads, IsLoaded, IsLoadFault, load_low, padded}
+use Rattle.cmd_buffer.specs.Buffer.{fits_in}
 use Rattle.console_session.specs.States.{State, PathSeen, Did, Told, Untold, Follows, CauseOf, loads}
 use Rattle.console_session.specs.Holding.{Holds}
 use Rattle.console_session.specs.Telling.{Tells, Puts, load_told}
-use Rattle.console_session.specs.Commands.{with_load, with_told, by_load, executed, fits_in, exec_text, missing_text, beyond_text, short_text}
+use Rattle.console_session.specs.Commands.{with_load, with_told, by_load, executed, exec_text, missing_text, beyond_text, short_text}
 use Rattle.console_session.specs.Serving.{seen, path_of, faults_in, calls_in, Does, KeepsRest, LoadCause}
 use Rattle.console_session.specs.declared.console.Console.{Console}
 use Rattle.console_session.specs.declared.ends.Next.{Next}

@@ -1,5 +1,5 @@
 -- The commands.
-use Rattle.std.specs.Prelude.{ℕ, ◌+◌, Bool, ◌==◌, nat_le, if◌then◌else◌, List, [], ◌∷◌, ◌++◌, length, drop, slice_index_or, Option, Some, None, Result, Ok, Err, codes, decimal}
+use Rattle.std.specs.Prelude.{ℕ, Bool, ◌==◌, if◌then◌else◌, List, [], ◌∷◌, ◌++◌, length, drop, slice_index_or, Option, Some, None, Result, Ok, Err, codes, decimal}
 use Rattle.base_fields.specs.Names.{lawful_name, base_of}
 use Rattle.base_fields.specs.Numbers.{number_of}
 use Rattle.base_fields.specs.Texts.{until_zero}
@@ -12,7 +12,7 @@ use Rattle.mem_model.specs.Event.{Shortage}
 use Rattle.mem_model.specs.Operations.{low_alloc, low_free, high_alloc, high_mark, high_free, flush}
 use Rattle.block_report.specs.Reports.{report_text}
 use Rattle.cmd_buffer.specs.Words.{words_of}
-use Rattle.cmd_buffer.specs.Buffer.{cut, kept}
+use Rattle.cmd_buffer.specs.Buffer.{fits_in, cut, kept}
 use Rattle.cmd_buffer.specs.Aliases.{AliasText, AliasSet, AliasRefusal, AliasRefusal.LongName, AliasRefusal.Full, alias_texts, alias_value, set_alias}
 use Rattle.cvar_table.specs.Cvars.{CvarSet, cvar_value, set_cvar}
 use Rattle.reply_pieces.specs.Pieces.{joined}
@@ -76,10 +76,6 @@ filed name s m place bytes = loads (record s { memory = m }) (file_text name (le
 
 abbrev pub answer_file : Option (List ℕ) → State → Did
 answer_file name s = by_load (codes "not found: ") filed name s
-
--- the buffer holds 8191 bytes
-abbrev pub fits_in : List ℕ → List ℕ → Bool
-fits_in text buffer = nat_le (length buffer + length text) 8191
 
 -- what `exec` prints of a file that was loaded, and inserted or not
 abbrev pub exec_text : List ℕ → Bool → List ℕ

@@ -2,10 +2,10 @@
 use Prim.Native.Nat.{zero, suc}
 use Rattle.std.specs.Prelude.{◌≡◌, ◌⊎◌, ℕ, List, [], ◌∷◌, ◌++◌, length, Bool, true, false, ◌==◌, if◌then◌else◌, Option, Some, None, Result, Ok, Err, codes}
 use Rattle.std.specs.List.{AllByRecursion}
-use Rattle.base_fields.specs.Texts.{until_zero}
+use Rattle.cmd_buffer.specs.Buffer.{fits_in, input}
 use Rattle.outside_io.specs.Streams.{Adds}
 use Rattle.console_session.specs.States.{State, Reply, Done, Did, Told, Untold, CutsOff, StillPut}
-use Rattle.console_session.specs.Commands.{command, fits_in}
+use Rattle.console_session.specs.Commands.{command}
 use Rattle.console_session.specs.declared.ends.Next.{Next}
 use Rattle.console_session.specs.declared.ends.Next.TheVariants.{Goes, Waits, Quits}
 use Rattle.console_session.specs.declared.ends.Fault.{Fault}
@@ -55,10 +55,6 @@ unfoldable pub frame : Bool → ℕ → State → Ran
 frame through zero s = if length s.buffer == 0 then stopped s [] false else stopped (record s { buffer = [] }) (plain (codes "runaway\n") ∷ []) false
 frame through (suc n) s = if length s.buffer == 0 then stopped s [] false
     else continued (command s) (ending through) (λ after. frame through n after)
-
--- what an input line adds to the buffer
-abbrev pub input : List ℕ → List ℕ
-input text = until_zero text ++ 10 ∷ []
 
 unfoldable pub overflowed : State → Ran
 overflowed s = and_then (plain (codes "overflow\n")) (frame false 4096 s)

@@ -3,10 +3,11 @@ ghost use Rattle.std.specs.Prelude.{◌≡◌, ◌≤◌, ◌++◌, length, IfOk
 ghost use Rattle.base_fields.specs.Texts.{until_zero};
 ghost use Rattle.mem_model.specs.Hunk.{low_bytes};
 ghost use Rattle.mem_model.specs.Operations.{low_free};
+ghost use Rattle.cmd_buffer.specs.Buffer.{fits_in};
 ghost use Rattle.file_load.specs.Loads.{load_low, Loads};
 ghost use Rattle.console_session.specs.Holding.{Holds};
 ghost use Rattle.console_session.specs.Serving.{seen, Does, KeepsRest};
-ghost use Rattle.console_session.specs.Commands.{answer_echo, answer_file, answer_exec, answer_reserve, answer_video, answer_level, answer_report, answer_path, answer_flush, fits_in};
+ghost use Rattle.console_session.specs.Commands.{answer_echo, answer_file, answer_exec, answer_reserve, answer_video, answer_level, answer_report, answer_path, answer_flush};
 
 use crate::console::Console;
 use crate::console::values::insert;

@@ -1,23 +1,20 @@
 // Commands taken from the buffer, frames of them, and input lines.
-ghost use Rattle.std.specs.Prelude.{◌≡◌, ◌<◌, ◌++◌, length, IfSome, if◌then◌else◌};
+ghost use Rattle.std.specs.Prelude.{◌≡◌, ◌<◌, length, IfSome};
 ghost use Rattle.cmd_buffer.specs.Buffer.{taken_text};
 ghost use Rattle.mem_model.specs.Laid.{IsText};
 ghost use Rattle.console_session.specs.Holding.{Holds, AreShort};
 ghost use Rattle.console_session.specs.Serving.{seen, Does, RunsAs};
-ghost use Rattle.console_session.specs.Commands.{by_verb, by_words, by_text, command, fits_in, name_in, number_in};
-ghost use Rattle.console_session.specs.Frames.{frame, line, overflowed, input, ending};
+ghost use Rattle.console_session.specs.Commands.{by_verb, by_words, by_text, command, name_in, number_in};
+ghost use Rattle.console_session.specs.Frames.{frame, line, overflowed, ending};
 
 use crate::console::Console;
 use crate::ends::{Fault, Next};
 use crate::replies::{put_runaway, put_too_long};
 use crate::verbs::{Verb, find_verb};
-use base_fields::{GameName, before_zero, decimal, game_name};
-use cmd_buffer::{CmdBuffer, CommandText, Taken, Words, tokenize};
+use base_fields::{GameName, decimal, game_name};
+use cmd_buffer::{CommandText, Taken, Words, tokenize};
 use mem_model::Store;
 use outside_io::{Folder, Sink};
-
-// How many bytes the buffer holds.
-const SPACE: usize = 8191;
 
 // How many commands a frame takes.
 const MOST: u32 = 4096;
@@ -139,7 +136,7 @@ impl<M: Store, F: Folder> Console<M, F> {
         requires holds { Holds (seen M.Store F.Folder self.old) }
         ensures { RunsAs M.Store F.Folder O.Sink (line typed.now) self.old self.new out.old out.new result }
     {
-        if add_line(&mut self.buffer, typed) {
+        if self.buffer.add_line(typed).is_ok() {
             self.run_frame(false, text, out)
         } else {
             self.run_overflow(text, out)
@@ -158,24 +155,6 @@ fn number_in(words: &Words<'_>, number: usize) -> Option<u32>
     ensures { result ≡ number_in number words.now }
 {
     decimal(words.word(number)).ok()
-}
-
-// Adds an input line to the buffer, where it fits.
-fn add_line(buffer: &mut CmdBuffer, text: &[u8]) -> bool
-    requires text { IsText buffer.old }
-    ensures fits { result ≡ fits_in (input text.now) buffer.old }
-    ensures buffer { buffer.new
-        ≡ (if fits_in (input text.now) buffer.old then buffer.old ++ input text.now else buffer.old) }
-    ensures text { IsText buffer.new }
-{
-    let text = before_zero(text);
-    if buffer.used() + (text.len() + 1) <= SPACE {
-        buffer.add(text).unwrap();
-        buffer.add(b"\n").unwrap();
-        true
-    } else {
-        false
-    }
 }
 
 // Whether a frame ends behind a command, and whether by `quit`.

@@ -1,9 +1,10 @@
 // The commands on aliases and cvars, and what a first word means that is no command.
 ghost use Rattle.std.specs.Prelude.{◌≡◌, ◌++◌, drop, if◌then◌else◌};
 ghost use Rattle.mem_model.specs.Laid.{IsText};
+ghost use Rattle.cmd_buffer.specs.Buffer.{fits_in};
 ghost use Rattle.console_session.specs.Holding.{Holds, AreShort};
 ghost use Rattle.console_session.specs.Serving.{seen, Does};
-ghost use Rattle.console_session.specs.Commands.{make_alias, answer_alias, make_cvar, cvar_or_unknown, by_name, spaced, fits_in};
+ghost use Rattle.console_session.specs.Commands.{make_alias, answer_alias, make_cvar, cvar_or_unknown, by_name, spaced};
 
 use crate::console::Console;
 use crate::ends::{Fault, Next};
