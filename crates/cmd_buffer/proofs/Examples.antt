@@ -8,7 +8,7 @@ use Rattle.mem_model.specs.Zone.{chosen, with_taken, with_free, joined_at, posit
 use Rattle.mem_model.specs.Operations.{z_alloc, z_free}
 use Rattle.zone_values.specs.Values.{value_at, put_value, replace_value}
 use Rattle.cmd_buffer.specs.Aliases.{AliasSet, AliasRefusal.LongName, AliasRefusal.Full, aliases_of, alias_texts, alias_value, set_alias}
-use Rattle.cmd_buffer.specs.Buffer.{cut, kept, first_command}
+use Rattle.cmd_buffer.specs.Buffer.{cut, short_command, first_command}
 use Rattle.cmd_buffer.specs.Words.{words_of}
 
 -- words
@@ -72,10 +72,10 @@ empty_command = refl
 no_command : first_command [] ≡ None
 no_command = refl
 
-longest : kept (replicate 1023 97) ≡ Some (replicate 1023 97)
+longest : short_command (replicate 1023 97) ≡ Some (replicate 1023 97)
 longest = refl
 
-too_long : kept (replicate 1024 97) ≡ None
+too_long : short_command (replicate 1024 97) ≡ None
 too_long = refl
 
 -- aliases, in a zone of 49152 bytes

@@ -59,12 +59,12 @@ pub record IsCut (buffer command rest : List ℕ) : Type 0 where
   pub shortest : (before : List ℕ) (byte : ℕ) (after : List ℕ) → command ≡ before ++ byte ∷ after → is_end before byte ≡ false
 
 -- the text of a command that isn't too long
-abbrev pub kept : List ℕ → Option (List ℕ)
-kept text = if nat_le (length text) 1023 then Some text else None
+abbrev pub short_command : List ℕ → Option (List ℕ)
+short_command text = if nat_le (length text) 1023 then Some text else None
 
 -- the first command, where there is one
 abbrev pub first_command : List ℕ → Option (Option (List ℕ))
-first_command buffer = if length buffer == 0 then None else Some (kept (cut buffer).command)
+first_command buffer = if length buffer == 0 then None else Some (short_command (cut buffer).command)
 
 -- the text of what was taken, or none of a command that is too long
 abbrev pub taken_text : List ℕ → Taken → Option (List ℕ)

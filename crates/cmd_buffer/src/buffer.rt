@@ -2,7 +2,7 @@
 ghost use Rattle.std.specs.Prelude.{◌≡◌, ◌↔◌, ◌<◌, ◌≤◌, ◌+◌, ◌-◌, ◌++◌, ◌==◌, ◌&&◌, ◌||◌, List, [], length, take, drop, option_map, OnOk, OnErr, IsErr, is_ok, if◌then◌else◌};
 ghost use Rattle.arrayvec.specs.ArrayVec.{array_vec_len};
 ghost use Rattle.mem_model.specs.Laid.{IsText};
-ghost use Rattle.cmd_buffer.specs.Buffer.{fits_in, input, cut, IsCut, first_command, taken_text, kept};
+ghost use Rattle.cmd_buffer.specs.Buffer.{fits_in, input, cut, IsCut, first_command, taken_text, short_command};
 
 use arrayvec::ArrayVec;
 use base_fields::before_zero;
@@ -221,7 +221,7 @@ fn ends_command(even_quotes: bool, byte: u8) -> bool
 
 // Keeps the text of a command, where it isn't too long.
 fn keep_command(command: &[u8], text: &mut CommandText) -> Taken
-    ensures { taken_text text.new.items result ≡ kept command.now }
+    ensures { taken_text text.new.items result ≡ short_command command.now }
 {
     if LONGEST < command.len() {
         return Taken::TooLong;

@@ -4,7 +4,7 @@ use Rattle.std.specs.Bool.{OnFalse}
 use Rattle.std.proofs.lemmas.Bool.{ne_eqb}
 use Rattle.outside_io.specs.Streams.{Adds, AddsFront}
 use Rattle.outside_io.proofs.Puts.{adds_none, adds_both}
-use Rattle.cmd_buffer.specs.Buffer.{cut, kept, first_command}
+use Rattle.cmd_buffer.specs.Buffer.{cut, short_command, first_command}
 use Rattle.console_session.specs.Commands.{by_text, command}
 use Rattle.console_session.specs.States.{State, Done, Did, Told, Untold, asks, CutsOff, StillPut, Follows, CauseOf}
 use Rattle.console_session.specs.Telling.{Tells, SinkCause}
@@ -83,5 +83,5 @@ pub command_is : (s : State) (taken : Option (List ℕ)) (rest : List ℕ) → 0
 unfolding command
 command_is s taken rest some first rest_is =
     let buffer_of : List ℕ → State = λ (b : List ℕ). record s { buffer = b } in
-    let taken_is : taken ≡ kept (cut s.buffer).command = some_same taken (kept (cut s.buffer).command) (rw (ne_eqb (length s.buffer) 0 (λ e. omega arith)) at first) in
-    ap (λ (b : List ℕ). by_text (kept (cut s.buffer).command) (buffer_of b)) (sym rest_is) ∙ ap (λ (t : Option (List ℕ)). by_text t (buffer_of rest)) (sym taken_is)
+    let taken_is : taken ≡ short_command (cut s.buffer).command = some_same taken (short_command (cut s.buffer).command) (rw (ne_eqb (length s.buffer) 0 (λ e. omega arith)) at first) in
+    ap (λ (b : List ℕ). by_text (short_command (cut s.buffer).command) (buffer_of b)) (sym rest_is) ∙ ap (λ (t : Option (List ℕ)). by_text t (buffer_of rest)) (sym taken_is)

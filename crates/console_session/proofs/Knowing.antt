@@ -6,12 +6,12 @@ use Rattle.mem_model.specs.Memory.{Memory}
 use Rattle.search_paths.specs.Mounts.{Mount, find_in}
 use Rattle.search_paths.proofs.FindLaws.{find_told-all}
 use Rattle.cmd_buffer.specs.Aliases.{alias_value}
-use Rattle.cmd_buffer.specs.Buffer.{fits_in, input, cut, kept}
+use Rattle.cmd_buffer.specs.Buffer.{fits_in, input, cut, short_command}
 use Rattle.cmd_buffer.specs.Words.{words_of}
 use Rattle.cvar_table.specs.Cvars.{cvar_value}
 use Rattle.file_load.specs.Loads.{Load, Missing, Beyond, NoRoom, At, Loading, load_low, low_load}
 use Rattle.console_session.specs.States.{State, Done, Did, Told, Untold, says}
-use Rattle.console_session.specs.Commands.{word_at, with_load, with_told, by_load, filed, executed, of_number_and_name, reserved, video_set, list_aliases, make_alias, make_cvar, cvar_text, by_cvar, by_alias, by_verb, by_words, by_text, command, name_in, number_in}
+use Rattle.console_session.specs.Commands.{word_at, with_load, with_told, by_load, shown_file, inserted_file, of_number_and_name, reserve_block, video_block, list_aliases, make_alias, make_cvar, cvar_text, by_cvar, by_alias, by_verb, by_words, by_text, command, name_in, number_in}
 use Rattle.console_session.specs.Verbs.{verb_of}
 use Rattle.console_session.specs.Frames.{Ended, Ran, ending, gone_on, continued, frame, overflowed, line, IsRun, IsCutShort, GoesAs, Runs}
 use Rattle.console_session.specs.declared.ends.Fault.{Fault}
@@ -67,13 +67,13 @@ module _ (s : State) (mounts : List Mount) (told : AllTold s mounts) where
 
     knows_verb : (v : Option Verb) → Knows s (by_verb v words s)
     knows_verb None = knows_alias (alias_value s.memory s.newest (word_at 0 words))
-    knows_verb (Some verb.File) = knows_load (codes "not found: ") filed (λ name m place bytes. refl) (name_in 1 words)
+    knows_verb (Some verb.File) = knows_load (codes "not found: ") shown_file (λ name m place bytes. refl) (name_in 1 words)
     knows_verb (Some verb.Echo) = refl
-    knows_verb (Some verb.Exec) = knows_load (codes "couldn't exec ") executed (λ name m place bytes. refl) (name_in 1 words)
+    knows_verb (Some verb.Exec) = knows_load (codes "couldn't exec ") inserted_file (λ name m place bytes. refl) (name_in 1 words)
     knows_verb (Some verb.Wait) = refl
     knows_verb (Some verb.Quit) = refl
-    knows_verb (Some verb.Reserve) = knows_block reserved (λ size name. refl) (number_in 1 words) (name_in 2 words)
-    knows_verb (Some verb.Video) = knows_block video_set (λ size name. refl) (number_in 1 words) (name_in 2 words)
+    knows_verb (Some verb.Reserve) = knows_block reserve_block (λ size name. refl) (number_in 1 words) (name_in 2 words)
+    knows_verb (Some verb.Video) = knows_block video_block (λ size name. refl) (number_in 1 words) (name_in 2 words)
     knows_verb (Some verb.Level) = refl
     knows_verb (Some verb.Report) = refl
     knows_verb (Some verb.Alias) = by_test s (eqb (length words) 1) (list_aliases s) (make_alias words s) refl refl
@@ -90,7 +90,7 @@ module _ (s : State) (mounts : List Mount) (told : AllTold s mounts) where
 -- A command over told mounts is told.
 pub command_knows : (s : State) (mounts : List Mount) → AllTold s mounts → Knows s (command s)
 unfolding command
-command_knows s mounts told = knows_text (record s { buffer = (cut s.buffer).rest }) mounts told (kept (cut s.buffer).command)
+command_knows s mounts told = knows_text (record s { buffer = (cut s.buffer).rest }) mounts told (short_command (cut s.buffer).command)
 
 -- a run is told to its end, and leaves the path
 pub record KnowsEnd (s : State) (ran : Ran) : Type 0 where

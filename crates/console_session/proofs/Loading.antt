@@ -21,7 +21,7 @@ use Rattle.cmd_buffer.specs.Buffer.{fits_in}
 use Rattle.console_session.specs.States.{State, PathSeen, Did, Told, Untold, Follows, CauseOf, loads}
 use Rattle.console_session.specs.Holding.{Holds}
 use Rattle.console_session.specs.Telling.{Tells, Puts, load_told}
-use Rattle.console_session.specs.Commands.{with_load, with_told, by_load, executed, exec_text, missing_text, beyond_text, short_text}
+use Rattle.console_session.specs.Commands.{with_load, with_told, by_load, inserted_file, exec_text, missing_text, beyond_text, short_text}
 use Rattle.console_session.specs.Serving.{seen, path_of, faults_in, calls_in, Does, KeepsRest, LoadCause}
 use Rattle.console_session.specs.declared.console.Console.{Console}
 use Rattle.console_session.specs.declared.ends.Next.{Next}
@@ -157,16 +157,16 @@ module _ {M F : Type 0} (store : StoreGhosts M) (folder : FolderGhosts F) (old m
       → IfSome (low_bytes (store.state mid.store) loaded.0.0) (λ bytes. new.buffer ≡ (if fits_in (until_zero (take loaded.1 bytes)) mid.buffer then until_zero (take loaded.1 bytes) ++ mid.buffer else mid.buffer))
       → IfSome (low_bytes (store.state mid.store) loaded.0.0) (λ bytes. fits ≡ fits_in (until_zero (take loaded.1 bytes)) mid.buffer)
       → store.state new.store ≡ (low_free (store.state mid.store) mark).after → new ≡ record mid { store = new.store; buffer = new.buffer }
-      → (loading : Loading) → (is : IsLoaded loading loaded (store.state mid.store)) → executed name (seen store folder old) loading.after loaded.0.0 is.bytes ≡ loads (seen store folder new) (exec_text name fits)
+      → (loading : Loading) → (is : IsLoaded loading loaded (store.state mid.store)) → inserted_file name (seen store folder old) loading.after loaded.0.0 is.bytes ≡ loads (seen store folder new) (exec_text name fits)
   exec_shape mark_is buffer_is fits_is memory_is others loading is =
       let s = seen store folder old in
       let text : List ℕ = until_zero is.bytes in
       let front : take loaded.1 (padded is.bytes) ≡ is.bytes = take_at is.bytes _ loaded.1 (sym is.length) in
-      let kept : mid.buffer ≡ old.buffer = ap (λ (x : State). x.buffer) rest.state in
+      let same_buffer : mid.buffer ≡ old.buffer = ap (λ (x : State). x.buffer) rest.state in
       let buffer_mid : new.buffer ≡ (if fits_in text mid.buffer then text ++ mid.buffer else mid.buffer) = rw front at (rw is.there at buffer_is) in
       let fits_mid : fits ≡ fits_in text mid.buffer = rw front at (rw is.there at fits_is) in
-      let buffer_here : new.buffer ≡ (if fits_in text old.buffer then text ++ old.buffer else old.buffer) = buffer_mid ∙ ap (λ (b : List ℕ). if fits_in text b then text ++ b else b) kept in
-      let fits_here : fits ≡ fits_in text old.buffer = fits_mid ∙ ap (fits_in text) kept in
+      let buffer_here : new.buffer ≡ (if fits_in text old.buffer then text ++ old.buffer else old.buffer) = buffer_mid ∙ ap (λ (b : List ℕ). if fits_in text b then text ++ b else b) same_buffer in
+      let fits_here : fits ≡ fits_in text old.buffer = fits_mid ∙ ap (fits_in text) same_buffer in
       let memory_here : store.state new.store ≡ (low_free loading.after (low_used s.memory)).after = memory_is ∙ ap (λ (k : ℕ). (low_free (store.state mid.store) k).after) mark_is ∙ ap (λ (n : Memory). (low_free n (low_used s.memory)).after) is.after in
       let made : Memory → List ℕ → Bool → Did = λ (m : Memory) (b : List ℕ) (f : Bool). loads (record s { memory = m; buffer = b }) (exec_text name f) in
       let state_is : seen store folder new ≡ record s { memory = store.state new.store; buffer = new.buffer } =

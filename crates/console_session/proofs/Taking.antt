@@ -4,7 +4,7 @@ use Rattle.std.proofs.lemmas.Bool.{ne_eqb}
 use Rattle.std.proofs.lemmas.List.{take_at, drop_at}
 use Rattle.std.proofs.lemmas.List.Elements.{All-take, All-drop}
 use Rattle.mem_model.specs.Laid.{IsText}
-use Rattle.cmd_buffer.specs.Buffer.{cut, kept, first_command, from_end, IsCut}
+use Rattle.cmd_buffer.specs.Buffer.{cut, short_command, first_command, from_end, IsCut}
 
 front_text : (front rest : List ℕ) → IsText (front ++ rest) → IsText front
 front_text front rest text = subst IsText (take_at front rest (length front) refl) (All-take (λ b. b ≢ 0) (length front) (front ++ rest) text)
@@ -24,7 +24,7 @@ module _ (buffer command rest : List ℕ) (is : IsCut buffer command rest) (text
   cut_command : IsText command
   cut_command = front_text command (from_end is.end rest) (subst IsText is.parts text)
 
-  kept_text : IfSome (kept command) (λ text. IsText text)
+  kept_text : IfSome (short_command command) (λ text. IsText text)
   kept_text = elim (leb (length command) 1023) as (λ t. IfSome (if t then Some command else None) (λ text. IsText text)) [ true ↦ cut_command | false ↦ tt ]
 
 some_same : (a b : Option (List ℕ)) → Some a ≡ Some b → a ≡ b
@@ -33,5 +33,5 @@ some_same a b e = cc
 -- nor has the command
 pub taken_text : (buffer rest : List ℕ) (taken : Option (List ℕ)) → IsCut buffer (cut buffer).command rest → IsText buffer → 0 < length buffer → Some taken ≡ first_command buffer → IfSome taken (λ text. IsText text)
 taken_text buffer rest taken is text some first =
-    let taken_is : taken ≡ kept (cut buffer).command = some_same taken (kept (cut buffer).command) (rw (ne_eqb (length buffer) 0 (λ e. omega arith)) at first) in
+    let taken_is : taken ≡ short_command (cut buffer).command = some_same taken (short_command (cut buffer).command) (rw (ne_eqb (length buffer) 0 (λ e. omega arith)) at first) in
     subst (λ (o : Option (List ℕ)). IfSome o (λ text. IsText text)) (sym taken_is) (kept_text buffer (cut buffer).command rest is text)

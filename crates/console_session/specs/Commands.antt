@@ -12,7 +12,7 @@ use Rattle.mem_model.specs.Event.{Shortage}
 use Rattle.mem_model.specs.Operations.{low_alloc, low_free, high_alloc, high_mark, high_free, flush}
 use Rattle.block_report.specs.Reports.{report_text}
 use Rattle.cmd_buffer.specs.Words.{words_of}
-use Rattle.cmd_buffer.specs.Buffer.{fits_in, cut, kept}
+use Rattle.cmd_buffer.specs.Buffer.{fits_in, cut, short_command}
 use Rattle.cmd_buffer.specs.Aliases.{AliasText, AliasSet, AliasRefusal, AliasRefusal.LongName, AliasRefusal.Full, alias_texts, alias_value, set_alias}
 use Rattle.cvar_table.specs.Cvars.{CvarSet, cvar_value, set_cvar}
 use Rattle.reply_pieces.specs.Pieces.{joined}
@@ -71,25 +71,25 @@ by_load missing did (Some name) s = with_told missing name (did name) s (load_lo
 abbrev pub file_text : List ℕ → (size place : ℕ) → List ℕ
 file_text name size place = joined (codes "file " ∷ name ∷ codes " " ∷ decimal size ∷ codes " at " ∷ decimal place ∷ codes "\n" ∷ [])
 
-abbrev pub filed : List ℕ → State → Memory → ℕ → List ℕ → Did
-filed name s m place bytes = loads (record s { memory = m }) (file_text name (length bytes) place)
+abbrev pub shown_file : List ℕ → State → Memory → ℕ → List ℕ → Did
+shown_file name s m place bytes = loads (record s { memory = m }) (file_text name (length bytes) place)
 
 abbrev pub answer_file : Option (List ℕ) → State → Did
-answer_file name s = by_load (codes "not found: ") filed name s
+answer_file name s = by_load (codes "not found: ") shown_file name s
 
--- what `exec` prints of a file that was loaded, and inserted or not
+-- what `exec` prints of a file that was loaded, and inserted_text or not
 abbrev pub exec_text : List ℕ → Bool → List ℕ
 exec_text name fits = joined (codes "execing " ∷ name ∷ codes "\n" ∷ (if fits then [] else codes "overflow\n") ∷ [])
 
-abbrev pub inserted : List ℕ → State → Memory → List ℕ → Did
-inserted name s m text = loads (record s { memory = m; buffer = (if fits_in text s.buffer then text ++ s.buffer else s.buffer) }) (exec_text name (fits_in text s.buffer))
+abbrev pub inserted_text : List ℕ → State → Memory → List ℕ → Did
+inserted_text name s m text = loads (record s { memory = m; buffer = (if fits_in text s.buffer then text ++ s.buffer else s.buffer) }) (exec_text name (fits_in text s.buffer))
 
--- what was loaded is inserted in front of the buffer, and the low hunk is freed to the mark before the load
-abbrev pub executed : List ℕ → State → Memory → ℕ → List ℕ → Did
-executed name s m place bytes = inserted name s (low_free m (low_used s.memory)).after (until_zero bytes)
+-- what was loaded is inserted_text in front of the buffer, and the low hunk is freed to the mark before the load
+abbrev pub inserted_file : List ℕ → State → Memory → ℕ → List ℕ → Did
+inserted_file name s m place bytes = inserted_text name s (low_free m (low_used s.memory)).after (until_zero bytes)
 
 abbrev pub answer_exec : Option (List ℕ) → State → Did
-answer_exec name s = by_load (codes "couldn't exec ") executed name s
+answer_exec name s = by_load (codes "couldn't exec ") inserted_file name s
 
 -- what a command does with a number and a name, which are refused in this order
 abbrev pub of_number_and_name : (ℕ → List ℕ → State → Did) → Option ℕ → Option (List ℕ) → State → Did
@@ -109,22 +109,22 @@ abbrev pub given_block : State → (title name : List ℕ) → ℕ → Answered 
 given_block s title name size given = takes (record s { memory = given.after }) (given_text title name size given.answer)
 
 -- a low block, named by the name's base
-abbrev pub reserved : ℕ → List ℕ → State → Did
-reserved size name s = given_block s (codes "reserve ") name size (low_alloc s.memory size (base_of name))
+abbrev pub reserve_block : ℕ → List ℕ → State → Did
+reserve_block size name s = given_block s (codes "reserve ") name size (low_alloc s.memory size (base_of name))
 
 abbrev pub answer_reserve : Option ℕ → Option (List ℕ) → State → Did
-answer_reserve size name s = of_number_and_name reserved size name s
+answer_reserve size name s = of_number_and_name reserve_block size name s
 
 -- the memory with no high block
 abbrev pub high_cleared : Memory → Memory
 high_cleared m = (high_free (high_mark m).after 0).after
 
 -- a high block in the place of all others, which are freed whether there is room or not
-abbrev pub video_set : ℕ → List ℕ → State → Did
-video_set size name s = given_block s (codes "video ") name size (high_alloc (high_cleared s.memory) size (base_of name))
+abbrev pub video_block : ℕ → List ℕ → State → Did
+video_block size name s = given_block s (codes "video ") name size (high_alloc (high_cleared s.memory) size (base_of name))
 
 abbrev pub answer_video : Option ℕ → Option (List ℕ) → State → Did
-answer_video size name s = of_number_and_name video_set size name s
+answer_video size name s = of_number_and_name video_block size name s
 
 -- the host level becomes where the low hunk ends
 abbrev pub answer_level : State → Did
@@ -268,4 +268,4 @@ by_text (Some text) s = by_words (words_of text) s
 
 -- the first command of the buffer
 unfoldable pub command : State → Did
-command s = by_text (kept (cut s.buffer).command) (record s { buffer = (cut s.buffer).rest })
+command s = by_text (short_command (cut s.buffer).command) (record s { buffer = (cut s.buffer).rest })
