@@ -6,8 +6,6 @@ use Rattle.mem_model.specs.Blocks.{HunkBlock}
 use Rattle.mem_model.specs.Memory.{size_of}
 use Rattle.mem_model.specs.Hunk.{with_bytes, with_bytes_from, with_bytes_above, with_last_bytes}
 use Rattle.mem_model.specs.Plain.{ends_from}
-use Rattle.std.specs.List.{AllByRecursion}
-use Rattle.mem_model.specs.Laid.{IsHunkBlock, AreLowBlocks}
 use Rattle.mem_model.specs.Rows.{hunk_row, rows_up, rows_down}
 
 ends-append : (start : ℕ) (blocks : List HunkBlock) (b : HunkBlock) (end : ℕ) → end ≡ (start + size_of blocks) + b.size → ends_from start blocks ++ end ∷ [] ≡ ends_from start (blocks ++ b ∷ [])
@@ -115,18 +113,3 @@ pub row_down : (top : ℕ) (blocks : List HunkBlock) (i j : ℕ) (b : HunkBlock)
 row_down top blocks i j b end fits h e n =
     let same : top + 0 ≡ top = omega arith in
     row_to top 0 blocks i j b end fits h e n ∙ ap (λ p. Some (hunk_row (p - end) b)) same
-
-short_from : (blocks : List HunkBlock) (i : ℕ) (b : HunkBlock) → AllByRecursion IsHunkBlock blocks → slice_get blocks i ≡ Some b → length b.name ≤ 16
-short_from [] i b p h = absurd (cc)
-short_from (c ∷ cs) zero b p h = let same : c ≡ b = cc in omega (arith, p.0.short, ap (λ (x : HunkBlock). length x.name) same)
-short_from (c ∷ cs) (suc i) b p h = short_from cs i b p.1 h
-
--- the name of a high block fits a row
-pub short_high : (blocks : List HunkBlock) (i : ℕ) (b : HunkBlock) → AllByRecursion IsHunkBlock blocks → slice_get blocks i ≡ Some b → length b.name ≤ 16
-short_high blocks i b p h = short_from blocks i b p h
-
--- and so does that of a low block
-pub short_low : (low : List HunkBlock) (i : ℕ) (b : HunkBlock) → AreLowBlocks low → slice_get low i ≡ Some b → length b.name ≤ 16
-short_low [] i b p h = absurd p
-short_low (zone ∷ blocks) zero b p h = let same : zone ≡ b = cc in omega (arith, ap length p.0.name, ap (λ (x : HunkBlock). length x.name) same)
-short_low (zone ∷ blocks) (suc i) b p h = short_from blocks i b p.1 h

@@ -1,5 +1,5 @@
 mod Examples
-pub mod Positions
+pub mod EndSearch
 pub mod Laying
 pub mod Cuts
 pub mod Calling
@@ -18,7 +18,6 @@ pub mod Falls
 pub mod Evicting
 pub mod Adding
 pub mod HighLaying
-pub mod HighCuts
 pub mod Newest
 pub mod Ends
 pub mod ZoneLists

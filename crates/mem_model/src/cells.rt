@@ -14,6 +14,7 @@ ghost use Rattle.mem_model.specs.contracts.cells.HunkCell.{the_row as hunk_cell_
 ghost use Rattle.mem_model.specs.contracts.cells.ZoneCell.{the_row as zone_cell_row};
 
 use crate::answers::BlockRow;
+use arrayvec::ArrayVec;
 use std::alloc::{AllocError, Global};
 use std::marker::Model;
 
@@ -41,7 +42,7 @@ pub fn insert_reserved<T: Drop>(list: &mut Vec<T>, at: usize, item: T)
 #[derive(Drop)]
 pub struct HunkCell {
     size: u32,
-    name: Vec<u8>,
+    name: ArrayVec<u8, 8>,
     bytes: Vec<u8>,
 }
 
@@ -60,26 +61,20 @@ impl HunkCell {
         ensures { IfOk result (λ c. c ≡ hunk_block size name.now) }
     {
         let bytes = vec![in alloc; 0; (size - 16) as usize]?;
-        let mut front = Vec::new(alloc);
-        front.extend_from_slice(&name[..name.len().min(8)])?;
-        Ok(HunkCell {
-            size,
-            name: front,
-            bytes,
-        })
+        let name = ArrayVec::try_from(&name[..name.len().min(8)]).unwrap();
+        Ok(HunkCell { size, name, bytes })
     }
 
     /// A block with a whole name and no bytes of its own.
-    pub fn bare(alloc: Global, size: u32, name: &[u8]) -> Result<HunkCell, AllocError>
-        ensures { IfOk result (λ c. c ≡ record { size = size; name = name.now; bytes = [] }) }
+    pub fn bare(alloc: Global, size: u32, name: &[u8]) -> HunkCell
+        requires { length name.now ≤ 8 }
+        ensures { result ≡ record { size = size; name = name.now; bytes = [] } }
     {
-        let mut whole = Vec::new(alloc);
-        whole.extend_from_slice(name)?;
-        Ok(HunkCell {
+        HunkCell {
             size,
-            name: whole,
+            name: ArrayVec::try_from(name).unwrap(),
             bytes: Vec::new(alloc),
-        })
+        }
     }
 
     /// The size, the header of 16 included.
@@ -91,7 +86,6 @@ impl HunkCell {
 
     /// The row of this block, whose header is at a place.
     pub fn row(&self, place: u32) -> BlockRow
-        requires { length self.now.name ≤ 16 }
         ensures { row_of result ≡ hunk_row place self.now }
     {
         let mut name = [0; 16];

@@ -1,15 +1,14 @@
 //! A store over vectors.
 
 ghost use Rattle.std.specs.Prelude.{◌≡◌, ◌<◌, ◌≤◌, ◌^◌, ◌↔◌, IfOk, Err, IsSome, MatchOption, None, false};
-ghost use Rattle.std.specs.List.{AllByRecursion};
-ghost use Rattle.mem_model.specs.Memory.{new_memory, size_of};
+ghost use Rattle.mem_model.specs.Memory.{new_memory};
 ghost use Rattle.mem_model.specs.Hunk.{bytes_above, cut_above, cut_from, last_bytes, without_temp};
 ghost use Rattle.mem_model.specs.Operations.{high_taken};
 ghost use Rattle.mem_model.specs.Answer.{Gives};
 ghost use Rattle.mem_model.specs.Told.{room_answer};
 ghost use Rattle.mem_model.specs.Places.{hunk_need, zone_need, cache_need};
 ghost use Rattle.mem_model.specs.Plain.{IsAt, IsCut, IsHighCut, IsLast};
-ghost use Rattle.mem_model.specs.Laid.{Laid, IsMultiple, IsText, IsHunkBlock, AreLowBlocks};
+ghost use Rattle.mem_model.specs.Laid.{Laid, IsMultiple, IsText};
 
 use crate::answers::{BadMark, BlockRow, CacheError, FreeError, Place, RoomError, StoreStart, ZoneError};
 use crate::cache::PlainCache;
@@ -27,7 +26,7 @@ pub struct PlainStore {
     users: u32,
     low: Vec<HunkCell>,
     low_used: u32,
-    // Where each low block ends, so that a row is read without a walk over the others.
+    // Where each low block ends, so that a row is read, and a block or a mark found, without a walk over the others.
     low_ends: Vec<u32>,
     high: Vec<HunkCell>,
     high_used: u32,
@@ -74,60 +73,6 @@ fn cache_need(size: u64) -> u64
     (size + 40).div_ceil(16) * 16
 }
 
-// The position of the block above the zone whose payload is at this place. It looks from the newest, which is asked
-// for the most.
-fn position_at(cells: &[HunkCell], used: u32, place: u32) -> usize
-    requires there { IsSome (bytes_above cells.now place) }
-    requires used { used ≡ size_of cells.now }
-    requires small { used ≤ 2 ^ 26 }
-    requires laid { AreLowBlocks cells.now }
-    ensures { IsAt cells.now place result }
-{
-    let mut end = used;
-    let mut i = cells.len();
-    while 1 < i {
-        i -= 1;
-        end -= cells[i].size();
-        if end + 16 == place {
-            return i;
-        }
-    }
-    unreachable!()
-}
-
-// How many blocks a mark keeps, the zone's among them. It looks from the newest, since marks are often near the end.
-fn kept_by(cells: &[HunkCell], used: u32, mark: u32) -> Option<usize>
-    requires used { used ≡ size_of cells.now }
-    requires laid { AreLowBlocks cells.now }
-    ensures { MatchOption result (cut_above cells.now mark ≡ None) (λ n. IsCut cells.now mark n) }
-{
-    let mut end = used;
-    let mut kept = cells.len();
-    while mark < end && 1 < kept {
-        kept -= 1;
-        end -= cells[kept].size();
-    }
-    if end == mark { Some(kept) } else { None }
-}
-
-// How many high blocks a mark keeps. It looks from the newest too.
-fn high_kept_by(cells: &[HunkCell], used: u32, mark: u32) -> Option<usize>
-    requires used { used ≡ size_of cells.now }
-    requires laid { AllByRecursion IsHunkBlock cells.now }
-    ensures { MatchOption result (cut_from 0 cells.now mark ≡ None) (λ n. IsHighCut cells.now mark n) }
-{
-    let mut end = used;
-    let mut kept = cells.len();
-    while mark < end {
-        kept -= 1;
-        end -= cells[kept].size();
-    }
-    if end != mark {
-        return None;
-    }
-    Some(kept)
-}
-
 // The position of the newest block.
 fn last_of(cells: &[HunkCell]) -> usize
     requires { IsSome (last_bytes cells.now) }
@@ -152,7 +97,7 @@ impl PlainStore {
             return Err(StoreStart::TooSmall);
         }
         let mut low = Vec::new(alloc);
-        add(&mut low, HunkCell::bare(alloc, zone + 16, b"zone")?)?;
+        add(&mut low, HunkCell::bare(alloc, zone + 16, b"zone"))?;
         let mut low_ends = Vec::new(alloc);
         add(&mut low_ends, zone + 16)?;
         Ok(PlainStore {
@@ -169,6 +114,37 @@ impl PlainStore {
             zone: PlainZone::create(alloc, zone - 32)?,
             cache: PlainCache::create(alloc),
         })
+    }
+
+    // The position of the low block above the zone whose payload is at this place. It stands behind the one that ends
+    // where its header is.
+    fn low_position(&self, place: u32) -> usize
+        requires { IsSome (bytes_above self.now.low place) }
+        ensures { IsAt self.now.low place result }
+    {
+        match self.low_ends.binary_search(&(place - 16)) {
+            Ok(before) => before + 1,
+            Err(_) => unreachable!(),
+        }
+    }
+
+    // How many low blocks a mark keeps, the zone's among them.
+    fn low_kept(&self, mark: u32) -> Option<usize>
+        ensures { MatchOption result (cut_above self.now.low mark ≡ None) (λ n. IsCut self.now.low mark n) }
+    {
+        let last = self.low_ends.binary_search(&mark).ok()?;
+        Some(last + 1)
+    }
+
+    // How many high blocks a mark keeps.
+    fn high_kept(&self, mark: u32) -> Option<usize>
+        ensures { MatchOption result (cut_from 0 self.now.high mark ≡ None) (λ n. IsHighCut self.now.high mark n) }
+    {
+        if mark == 0 {
+            return Some(0);
+        }
+        let last = self.high_ends.binary_search(&mark).ok()?;
+        Some(last + 1)
     }
 
     // Frees the temporary block, where one is active.
@@ -247,7 +223,7 @@ impl Store for PlainStore {
     }
 
     fn low_free(&mut self, mark: u32) -> Result<(), BadMark> {
-        let Some(kept) = kept_by(&self.low, self.low_used, mark) else {
+        let Some(kept) = self.low_kept(mark) else {
             return Err(BadMark { mark });
         };
         self.low.truncate(kept);
@@ -257,11 +233,11 @@ impl Store for PlainStore {
     }
 
     fn low_bytes(&self, place: Place) -> &[u8] {
-        self.low[position_at(&self.low, self.low_used, place.0)].bytes()
+        self.low[self.low_position(place.0)].bytes()
     }
 
     fn low_bytes_mut(&mut self, place: Place) -> &mut [u8] {
-        let at = position_at(&self.low, self.low_used, place.0);
+        let at = self.low_position(place.0);
         self.low[at].bytes_mut()
     }
 
@@ -277,7 +253,7 @@ impl Store for PlainStore {
 
     fn high_free(&mut self, mark: u32) -> Result<(), BadMark> {
         self.free_temp();
-        match high_kept_by(&self.high, self.high_used, mark) {
+        match self.high_kept(mark) {
             Some(kept) => {
                 self.high.truncate(kept);
                 self.high_ends.truncate(kept);

@@ -10,12 +10,12 @@ use Rattle.mem_model.proofs.plain.PlainStoreStore.high_free.Goals as goal
 
 pub returns-in-None-clause-gives : goal.returns-in-None-clause-gives
 returns-in-None-clause-gives c =
-    let none : cut_from 0 c.self.inside.high.items c.args.mark ≡ None = rw c.deref.ensures.value at c.in-None.ensures in
+    let none : cut_from 0 c.self.inside.high.items c.args.mark ≡ None = rw (← c.self.view_is) at c.in-None.ensures in
     rw c.free_temp.ensures.freed (high_free_refused c.args.self.now (state_of c.self.inside) c.args.mark c.free_temp.ensures.quiet (c.self.view_is ∙ c.free_temp.ensures.freed) none)
 
 pub invariant_of-self : goal.invariant_of-self
 invariant_of-self c =
-    let cut : IsHighCut c.self.inside.high.items c.args.mark c.in-Some.kept = rw c.deref.ensures.value at c.in-Some.ensures in
+    let cut : IsHighCut c.self.inside.high.items c.args.mark c.in-Some.kept = rw (← c.self.view_is) at c.in-Some.ensures in
     let none : c.self.inside.temp ≡ None = ap (λ (m : Memory). m.temp) (c.self.view_is ∙ c.free_temp.ensures.freed) ∙ temp-without_temp c.args.self.now in
     record {
       laid = rw (c.truncate.ensures.items, none) (Laid-with_fewer_high (state_of c.self.inside) c.in-Some.kept c.self.invariant.laid);
@@ -27,7 +27,7 @@ invariant_of-self c =
 
 pub returns-in-Some-clause-gives : goal.returns-in-Some-clause-gives
 returns-in-Some-clause-gives c =
-    let cut : IsHighCut c.self.inside.high.items c.args.mark c.in-Some.kept = rw c.deref.ensures.value at c.in-Some.ensures in
+    let cut : IsHighCut c.self.inside.high.items c.args.mark c.in-Some.kept = rw (← c.self.view_is) at c.in-Some.ensures in
     rw c.truncate.ensures.items (high_free_cut c.args.self.now (state_of c.self.inside) c.args.mark _ c.free_temp.ensures.quiet (c.self.view_is ∙ c.free_temp.ensures.freed) cut.kept)
 
 pub returns-in-Some-clause-laid : goal.returns-in-Some-clause-laid

@@ -10,19 +10,19 @@ use Rattle.mem_model.proofs.Laying.{Laid-with_low_bytes, size_of-with_bytes_abov
 use Rattle.mem_model.proofs.plain.PlainStoreStore.low_bytes_mut.Goals as goal
 use Rattle.mem_model.proofs.plain.PlainStoreStore.low_bytes_mut.Goals.{After-bytes_mut}
 
-pub position_at-at-requires-clause-there : goal.position_at-at-requires-clause-there
+pub low_position-at-requires : goal.low_position-at-requires
 unfolding low_bytes
-position_at-at-requires-clause-there c =
+low_position-at-requires c =
     let here : IsSome (low_bytes c.args.self.now c.args.place.0) = c.requires in
-    rw c.deref.ensures.value (rw (← c.self.view_is) at here)
+    rw (← c.self.view_is) at here
 
 -- the position found is that of the block that is lent
-at_lent : (c : After-bytes_mut) → IsAt c.self.inside.low.items c.args.place.0 c.position_at-at.result
-at_lent c = rw c.deref.ensures.value at c.position_at-at.ensures
+at_lent : (c : After-bytes_mut) → IsAt c.self.inside.low.items c.args.place.0 c.low_position-at.result
+at_lent c = c.low_position-at.ensures
 
-read_lent : (c : After-bytes_mut) → slice_get c.self.inside.low.items c.position_at-at.result ≡ Some c.index_mut.result.now
+read_lent : (c : After-bytes_mut) → slice_get c.self.inside.low.items c.low_position-at.result ≡ Some c.index_mut.result.now
 read_lent c =
-    slice_get_read c.self.inside.low.items _ c.position_at-at.result c.index_mut.result.now c.self.inside.low.ok.0 (omega (arith, (at_lent c).inside, c.self.inside.low.ok.0)) c.index_mut.ensures.value
+    slice_get_read c.self.inside.low.items _ c.low_position-at.result c.index_mut.result.now c.self.inside.low.ok.0 (omega (arith, (at_lent c).inside, c.self.inside.low.ok.0)) c.index_mut.ensures.value
 
 pub invariant_of-self-lent : goal.invariant_of-self-lent
 unfolding with_low_bytes

@@ -9,12 +9,12 @@ use Rattle.mem_model.proofs.plain.PlainStoreStore.low_free.Goals as goal
 
 pub returns-in_default-clause-gives : goal.returns-in_default-clause-gives
 returns-in_default-clause-gives c =
-    let none : cut_above c.self.inside.low.items c.args.mark ≡ None = rw c.deref.ensures.value at c.in_default.ensures in
+    let none : cut_above c.self.inside.low.items c.args.mark ≡ None = rw (← c.self.view_is) at c.in_default.ensures in
     rw (← c.self.view_is) (low_free_refused (state_of c.self.inside) c.args.mark refl none)
 
 pub invariant_of-self : goal.invariant_of-self
 invariant_of-self c =
-    let cut : IsCut c.self.inside.low.items c.args.mark c.in-Some.kept = rw c.deref.ensures.value at c.in-Some.ensures in
+    let cut : IsCut c.self.inside.low.items c.args.mark c.in-Some.kept = rw (← c.self.view_is) at c.in-Some.ensures in
     record {
       laid = rw c.truncate.ensures.items (Laid-with_fewer (state_of c.self.inside) c.in-Some.kept cut.some c.self.invariant.laid);
       low_used = rw c.truncate.ensures.items (sym cut.ends);
@@ -25,7 +25,7 @@ invariant_of-self c =
 
 pub returns-clause-gives : goal.returns-clause-gives
 returns-clause-gives c =
-    let cut : IsCut c.self.inside.low.items c.args.mark c.in-Some.kept = rw c.deref.ensures.value at c.in-Some.ensures in
+    let cut : IsCut c.self.inside.low.items c.args.mark c.in-Some.kept = rw (← c.self.view_is) at c.in-Some.ensures in
     rw (c.truncate.ensures.items, ← c.self.view_is) (low_free_cut (state_of c.self.inside) c.args.mark _ refl cut.kept)
 
 pub returns-clause-laid : goal.returns-clause-laid
