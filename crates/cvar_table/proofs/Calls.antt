@@ -1,8 +1,8 @@
 -- What setting a cvar gives, from what its parts gave.
-use Rattle.std.proofs.Common.{◌≡◌, ℕ, List, Some, None, Result, Ok, Err, Bool, true, false, length, get_or, sym, ap, ◌∙◌, position, bytes_eq}
+use Rattle.std.proofs.Common.{◌≡◌, ℕ, List, Some, None, Result, Ok, Err, Bool, true, false, length, get_or, refl, sym, ap, ◌∙◌, position, bytes_eq}
 use Rattle.std.specs.Prelude.{slice_set, IfSome}
 use Rattle.mem_model.specs.Memory.{Memory}
-use Rattle.mem_model.specs.Laid.{Laid}
+use Rattle.mem_model.specs.Laid.{Laid, IsText}
 use Rattle.mem_model.specs.Answer.{Answers, Gives}
 use Rattle.mem_model.specs.Told.{zone_answer}
 use Rattle.mem_model.specs.declared.answers.Place.{Place}
@@ -10,10 +10,11 @@ use Rattle.mem_model.specs.declared.answers.ZoneError.{ZoneError}
 use Rattle.mem_model.specs.declared.answers.ZoneError.TheVariants as zone_error
 use Rattle.zone_values.specs.Held.{OthersStay}
 use Rattle.zone_values.specs.Values.{replace_value}
-use Rattle.cvar_table.specs.Cvars.{Cvar, Default, defaults, CvarSet, set_cvar, places_of, HoldsCvars}
+use Rattle.cvar_table.specs.Cvars.{Cvar, Default, defaults, CvarSet, cvar_value, set_cvar, places_of, HoldsCvars, ReadAlike, OthersReadAlike}
 use Rattle.cvar_table.specs.Told.{listed, zone_told}
 use Rattle.cvar_table.proofs.Listing.{cvar_found, cvar_missing, cvar_placed}
-use Rattle.cvar_table.proofs.CvarLaws.{set_cvar-found, set_cvar-refused, set_cvar-missing, HoldsCvars-set_cvar, OthersStay-set_cvar}
+use Rattle.cvar_table.proofs.CvarLaws.{set_cvar-found, set_cvar-refused, set_cvar-missing, set_cvar-refusal, HoldsCvars-set_cvar, OthersStay-set_cvar, cvar_value-set_cvar, cvar_value-set_other, cvar_value-kept}
+use Rattle.mem_model.proofs.Untouched.{zone_bytes-same}
 
 -- the outcomes, where the default of the name stands at a position
 module _ (m n : Memory) (places : List Place) (cvars : List Cvar) (name value : List ℕ) (at : ℕ) (d : Place)
@@ -61,3 +62,19 @@ pub stay_undone : (m n : Memory) (cvars : List Cvar) (name value : List ℕ) (fr
     IfSome (zone_told {A = Bool} (Err error)) (λ told. cvars ≡ (set_cvar m cvars name value).cvars) → OthersStay m n (places_of cvars) (places_of cvars)
 stay_undone m n cvars name value frugal (zone_error.Full asked) laid holds given is = stay_done m n cvars cvars name value (Err asked) laid holds given is
 stay_undone m n cvars name value frugal zone_error.OutOfMemory laid holds ran_out is = λ place bytes none there. (none, rw ran_out.after there)
+
+-- What was set is read back, each other cvar as before,
+pub read_done : (m n : Memory) (cvars after : List Cvar) (name value : List ℕ) → Laid m → HoldsCvars m cvars → IsText value → Answers (set_cvar m cvars name value).given (Ok true) n → after ≡ (set_cvar m cvars name value).cvars →
+    cvar_value n after name ≡ Some value
+read_done m n cvars after name value laid holds text given is = rw (given.after, is) (cvar_value-set_cvar m cvars name value laid holds text given.answer)
+
+pub others_done : (m n : Memory) (cvars after : List Cvar) (name value : List ℕ) (reply : Result Bool ℕ) → Laid m → HoldsCvars m cvars → Answers (set_cvar m cvars name value).given reply n → after ≡ (set_cvar m cvars name value).cvars →
+    OthersReadAlike m n cvars after name
+others_done m n cvars after name value reply laid holds given is = λ other differ. rw (given.after, is) (cvar_value-set_other m cvars name value other laid holds differ)
+
+-- and after a refusal all.
+pub read_undone : (m n : Memory) (cvars : List Cvar) (name value : List ℕ) (frugal : Bool) (error : ZoneError) → HoldsCvars m cvars → Gives (set_cvar m cvars name value).given frugal m (zone_told {A = Bool} (Err error)) n → ReadAlike m n cvars cvars
+read_undone m n cvars name value frugal (zone_error.Full asked) holds given =
+    let same = ap (λ (k : Memory). k.zone) given.after ∙ (set_cvar-refusal m cvars name value asked given.answer).1 in
+    λ own. cvar_value-kept m n cvars own (λ place bytes there. zone_bytes-same n m place same ∙ there) holds
+read_undone m n cvars name value frugal zone_error.OutOfMemory holds ran_out = λ own. rw ran_out.after refl

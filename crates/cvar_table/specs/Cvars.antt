@@ -1,5 +1,5 @@
 -- The cvars: variables of the console, each a name and the place of its value in the zone.
-use Rattle.std.specs.Prelude.{ℕ, List, [], ◌∷◌, Bool, true, false, Option, Some, None, Result, Ok, Err, if◌then◌else◌}
+use Rattle.std.specs.Prelude.{◌≡◌, ◌≢◌, ℕ, List, [], ◌∷◌, Bool, true, false, Option, Some, None, Result, Ok, Err, if◌then◌else◌}
 use Rattle.std.specs.Prelude.{map, find, bytes_eq, codes}
 use Rattle.std.specs.Option.{option_and_then}
 use Rattle.mem_model.specs.Memory.{Memory}
@@ -88,3 +88,11 @@ places_of cvars = map (λ (cvar : Cvar). cvar.place) cvars
 -- The values of the cvars are in used blocks of the zone, each in its own.
 abbrev pub HoldsCvars : Memory → List Cvar → Type 0
 HoldsCvars m cvars = AreHeld m (places_of cvars)
+
+-- the cvar of each name reads as before
+abbrev pub ReadAlike : (old new : Memory) → (before now : List Cvar) → Type 0
+ReadAlike old new before now = (name : List ℕ) → cvar_value new now name ≡ cvar_value old before name
+
+-- so does that of each name but one
+abbrev pub OthersReadAlike : (old new : Memory) → (before now : List Cvar) → List ℕ → Type 0
+OthersReadAlike old new before now name = (other : List ℕ) → other ≢ name → cvar_value new now other ≡ cvar_value old before other

@@ -1,12 +1,12 @@
 //! The cvars: variables of the console with values in the zone.
 #![tactic(auto)]
 
-ghost use Rattle.std.specs.Prelude.{◌≡◌, ℕ, ◌<◌, ◌^◌, Some, None, MatchOption, is_some, IfSome, IfOk, OnErr};
+ghost use Rattle.std.specs.Prelude.{◌≡◌, ◌≢◌, ℕ, Ok, true, ◌<◌, ◌^◌, Some, None, MatchOption, is_some, IfSome, IfOk, OnErr};
 ghost use Rattle.std.specs.Prelude.{length, take, map, position, slice_get, bytes_eq};
 ghost use Rattle.std.specs.Option.{option_map};
 ghost use Rattle.mem_model.specs.Answer.{Gives};
 ghost use Rattle.mem_model.specs.Laid.{Laid, IsText};
-ghost use Rattle.cvar_table.specs.Cvars.{defaults, created, cvar_of, cvar_value, set_cvar, places_of, HoldsCvars};
+ghost use Rattle.cvar_table.specs.Cvars.{defaults, created, cvar_of, cvar_value, set_cvar, places_of, HoldsCvars, ReadAlike, OthersReadAlike};
 ghost use Rattle.zone_values.specs.Held.{OthersStay};
 ghost use Rattle.cvar_table.specs.Told.{zone_told};
 
@@ -131,6 +131,13 @@ impl Cvars {
         ensures cvars { IfSome (zone_told result) (λ _.
             self.new ≡ (set_cvar (M.state store.old) self.old name.now value.now).cvars) }
         ensures stays { OnErr result (self.new ≡ self.old) }
+
+        // What was set is read back, and all else as before.
+        ensures read_back { result ≡ Ok true → cvar_value (M.state store.new) self.new name.now ≡ Some value.now }
+        ensures others_read { result ≡ Ok true →
+            OthersReadAlike (M.state store.old) (M.state store.new) self.old self.new name.now }
+        ensures unset_read { result ≢ Ok true → ReadAlike (M.state store.old) (M.state store.new) self.old self.new }
+
         ensures holds { HoldsCvars (M.state store.new) self.new }
         ensures others { OthersStay (M.state store.old) (M.state store.new) (places_of self.old) (places_of self.new) }
         ensures laid { Laid (M.state store.old) → Laid (M.state store.new) }

@@ -1,5 +1,5 @@
 use Rattle.std.proofs.Common.{sym, arith}
-use Rattle.cvar_table.proofs.Calls.{set_done, set_undone, set_nothing, holds_done, holds_undone, stay_done, stay_undone}
+use Rattle.cvar_table.proofs.Calls.{set_done, set_undone, set_nothing, holds_done, holds_undone, stay_done, stay_undone, read_done, others_done, read_undone}
 use Rattle.cvar_table.proofs.Cvars.set.Goals as goal
 
 pub returns-in-Ok-clause-gives : goal.returns-in-Ok-clause-gives
@@ -43,3 +43,18 @@ pub returns-in-Err-clause-others : goal.returns-in-Err-clause-others
 returns-in-Err-clause-others g c =
     let undone = set_undone _ _ c.self.inside.places c.args.self.now c.args.name.now c.args.value.now c.in-Some.at (record { 0 = 0 }) (omega arith) c.self.view_is (sym c.in-Some.ensures) _ c.in-Err.error c.in-Err.ensures.gives in
     stay_undone _ _ c.args.self.now c.args.name.now c.args.value.now _ c.in-Err.error c.in-Err.ensures.was_laid c.requires.holds undone.0 undone.1
+
+pub returns-in-Ok-clause-read_back : goal.returns-in-Ok-clause-read_back
+returns-in-Ok-clause-read_back g c = λ ok.
+    let done = set_done _ _ c.self.inside.places c.args.self.now c.args.name.now c.args.value.now c.in-Some.at (record { 0 = 0 }) (omega arith) c.self.view_is (sym c.in-Some.ensures) c.in-Ok.place c.in-Ok.ensures.gives in
+    read_done _ _ c.args.self.now _ c.args.name.now c.args.value.now c.in-Ok.ensures.was_laid c.requires.holds c.requires.text done.0 done.1
+
+pub returns-in-Ok-clause-others_read : goal.returns-in-Ok-clause-others_read
+returns-in-Ok-clause-others_read g c = λ ok.
+    let done = set_done _ _ c.self.inside.places c.args.self.now c.args.name.now c.args.value.now c.in-Some.at (record { 0 = 0 }) (omega arith) c.self.view_is (sym c.in-Some.ensures) c.in-Ok.place c.in-Ok.ensures.gives in
+    others_done _ _ c.args.self.now _ c.args.name.now c.args.value.now _ c.in-Ok.ensures.was_laid c.requires.holds done.0 done.1
+
+pub returns-in-Err-clause-unset_read : goal.returns-in-Err-clause-unset_read
+returns-in-Err-clause-unset_read g c = λ unset.
+    let undone = set_undone _ _ c.self.inside.places c.args.self.now c.args.name.now c.args.value.now c.in-Some.at (record { 0 = 0 }) (omega arith) c.self.view_is (sym c.in-Some.ensures) _ c.in-Err.error c.in-Err.ensures.gives in
+    read_undone _ _ c.args.self.now c.args.name.now c.args.value.now _ c.in-Err.error c.requires.holds undone.0
