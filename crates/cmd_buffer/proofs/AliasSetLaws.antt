@@ -1,11 +1,10 @@
 -- Laws of setting an alias, over the definitions alone: what it means to those who use aliases.
 use Rattle.std.proofs.Common.{◌≡◌, ℕ, ◌+◌, ◌<◌, ◌≤◌, List, [], ◌∷◌, length, map, find, Bool, true, false, ◌||◌, cond, Option, Some, None, Result, Ok, Err, ◌⊎◌, inl, inr, refl, sym, ap, ◌∙◌, subst, bytes_eq}
-use Rattle.std.specs.Prelude.{is_some, IsSome}
+use Rattle.std.specs.Prelude.{is_some, IsSome, OnOk, OnErr}
 use Rattle.std.specs.List.{list_any}
 use Rattle.std.specs.Option.{option_map, option_and_then, unwrap_or}
-use Rattle.std.specs.Str.{str_eq_ignore_ascii_case, str_to_ascii_lowercase}
+use Rattle.std.specs.Str.{str_eq_ignore_ascii_case}
 use Rattle.std.proofs.lemmas.Bool.{cases_lt}
-use Rattle.std.proofs.lemmas.Slice.Eq.{bytes_eq-Decides}
 use Rattle.base_fields.specs.Texts.{until_zero}
 use Rattle.mem_model.specs.Memory.{Memory}
 use Rattle.mem_model.specs.Laid.{Laid, IsText}
@@ -19,8 +18,12 @@ use Rattle.mem_model.proofs.ZoneLaws.{zone_bytes-z_alloc, z_alloc-refusal}
 use Rattle.zone_values.specs.Values.{value_at, put_value, replace_value}
 use Rattle.zone_values.proofs.HeldLaws.{some_bytes}
 use Rattle.zone_values.proofs.ValueLaws.{Laid-put_value, Laid-replace_value, put_value-refusal, replace_value-refusal}
-use Rattle.cmd_buffer.specs.Aliases.{Alias, HoldsAliases, aliases_of, alias_places, AliasText, text_of, alias_texts, alias_value, with_value, with_text, AliasRefusal, AliasRefusal.LongName, AliasRefusal.Full, AliasSet, refused, value_reset, record_written, record_added, added, changed, set_alias}
-use Rattle.cmd_buffer.specs.AliasCalls.{given_back}
+use Rattle.cmd_buffer.specs.Aliases.{Alias, HoldsAliases, aliases_of, alias_places, AliasText, text_of, alias_texts, alias_value, with_value, with_text, IsReadBack, AliasRefusal, AliasRefusal.LongName, AliasRefusal.Full, AliasSet, refused, value_reset, record_written, record_added, added, changed, set_alias}
+use Rattle.cmd_buffer.specs.AliasCalls.{given_back, set_told, IsSet, RanOutSetting, GivesSet}
+use Rattle.cmd_buffer.specs.declared.aliases.AliasError.{AliasError}
+use Rattle.cmd_buffer.specs.declared.aliases.AliasError.TheVariants as alias_error
+use Rattle.mem_model.specs.declared.answers.ZoneError.TheVariants as zone_error
+use Rattle.cmd_buffer.proofs.AliasTexts.{read_back}
 use Rattle.cmd_buffer.proofs.AliasLaws.{texts_still, holds_none, aliases_none}
 use Rattle.cmd_buffer.proofs.AliasAdding.{Stays, keeps_each, stays_kept, stays_added, kept_again, kept_first, newest_texts}
 use Rattle.cmd_buffer.proofs.AliasChanging.{stays_changed, moved_texts}
@@ -220,20 +223,31 @@ value_in_texts : (m : Memory) (name : List ℕ) (aliases : List Alias) → AreUs
 value_in_texts m name [] used = refl
 value_in_texts m name (a ∷ older) used = value_first m name a older (str_eq_ignore_ascii_case a.name name) (some_value m a.value_place used.1.0) (value_in_texts m name older used.1.1)
 
--- The value of a name is that of the newest text of the name, in any case.
-pub alias_value-texts : (m : Memory) (newest : Option ℕ) (name : List ℕ) → HoldsAliases m newest →
-    alias_value m newest name ≡ option_map (λ (t : AliasText). t.value) (find (λ (t : AliasText). str_eq_ignore_ascii_case t.name name) (alias_texts m newest))
-alias_value-texts m newest name h = value_in_texts m name (aliases_of m newest) h.held.used
+-- The value of the newest alias of a name is that of the newest text.
+pub value-texts : (m : Memory) (newest : Option ℕ) (name : List ℕ) → HoldsAliases m newest →
+    option_and_then (λ (a : Alias). value_at m a.value_place) (find (λ (a : Alias). str_eq_ignore_ascii_case a.name name) (aliases_of m newest)) ≡ alias_value m newest name
+value-texts m newest name h = value_in_texts m name (aliases_of m newest) h.held.used
 
--- A new name has its value from then on.
-pub alias_value-new : (m : Memory) (newest : Option ℕ) (name value : List ℕ) → Laid m → HoldsAliases m newest → IsText name → IsText value → find (λ (x : Alias). bytes_eq x.name name) (aliases_of m newest) ≡ None →
-    (set_alias m newest name value).answer ≡ Ok tt → alias_value (set_alias m newest name value).after (set_alias m newest name value).newest name ≡ Some value
-alias_value-new m newest name value laid h text value_text none ok =
-    let found : List AliasText → Option (List ℕ) = λ texts. option_map (λ (t : AliasText). t.value) (find (λ (t : AliasText). str_eq_ignore_ascii_case t.name name) texts) in
-    let same : str_eq_ignore_ascii_case name name ≡ true = (bytes_eq-Decides (str_to_ascii_lowercase name) (str_to_ascii_lowercase name)).1 refl in
-    alias_value-texts _ _ name (stays_set_alias m newest name value laid h text).holds
-    ∙ ap found (texts-set_alias m newest name value laid h text value_text ok ∙ text_of_new m newest name value none)
-    ∙ ap (λ (t : Bool). option_map (λ (x : AliasText). x.value) (cond t (Some (record { name = name; value = value })) (find (λ (x : AliasText). str_eq_ignore_ascii_case x.name name) (alias_texts m newest)))) same
+-- What was set is read back; after a refusal or a want of memory all texts are as before.
+texts_out : (m n : Memory) (before now : Option ℕ) (frugal : Bool) → Laid m → HoldsAliases m before → RanOutSetting frugal m n before now → alias_texts n now ≡ alias_texts m before
+texts_out m n before now frugal laid h out = ap (alias_texts n) out.same ∙ elim out.after [
+  | inl same ↦ ap (λ (k : Memory). alias_texts k before) same
+  | inr back ↦ ap (λ (k : Memory). alias_texts k before) back ∙ texts-given_back m before laid h
+]
+
+texts_kept : (m n : Memory) (before now : Option ℕ) (name value : List ℕ) (refusal : AliasRefusal) → Laid m → HoldsAliases m before → IsSet (set_alias m before name value) (Err refusal) n now → alias_texts n now ≡ alias_texts m before
+texts_kept m n before now name value refusal laid h set =
+    let kept = texts-refused m before name value refusal laid h set.answer in
+    ap (λ (k : Memory). alias_texts k now) set.after ∙ ap (alias_texts (set_alias m before name value).after) (set.newest ∙ kept.0) ∙ kept.1
+
+pub reads_told : (m n : Memory) (before now : Option ℕ) (name value : List ℕ) (frugal : Bool) (result : Result (Unit {0}) AliasError) → Laid m → HoldsAliases m before → IsText name → IsText value → GivesSet (set_alias m before name value) frugal m before (set_told result) n now →
+    OnOk result (IsReadBack (alias_texts m before) (alias_texts n now) name value) × OnErr result (alias_texts n now ≡ alias_texts m before)
+reads_told m n before now name value frugal (Ok done) laid h text value_text set =
+    let texts = ap (λ (k : Memory). alias_texts k now) set.after ∙ ap (alias_texts (set_alias m before name value).after) set.newest ∙ texts-set_alias m before name value laid h text value_text set.answer in
+    (subst (λ (texts : List AliasText). IsReadBack (alias_texts m before) texts name value) (sym texts) (read_back (alias_texts m before) name value), tt)
+reads_told m n before now name value frugal (Err alias_error.LongName) laid h text value_text set = (tt, texts_kept m n before now name value LongName laid h set)
+reads_told m n before now name value frugal (Err (alias_error.Zone (zone_error.Full asked))) laid h text value_text set = (tt, texts_kept m n before now name value (Full asked) laid h set)
+reads_told m n before now name value frugal (Err (alias_error.Zone zone_error.OutOfMemory)) laid h text value_text out = (tt, texts_out m n before now frugal laid h out)
 
 -- for callers: `#[tactic(auto, using(cmd_buffer::proofs::AliasSetLaws::alias_laws))]`
-pub ruleset alias_laws = (holds_none, aliases_none, stays_set_alias, Laid-set_alias, set_alias-long, texts-set_alias, texts-given_back, names-with_value, alias_value-texts, alias_value-new)
+pub ruleset alias_laws = (holds_none, aliases_none, stays_set_alias, Laid-set_alias, set_alias-long, texts-set_alias, texts-given_back, names-with_value, value-texts, reads_told)

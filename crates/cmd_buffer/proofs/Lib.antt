@@ -6,6 +6,7 @@ pub mod AliasNames
 pub mod AliasReads
 pub mod AliasRows
 pub mod AliasSetLaws
+pub mod AliasTexts
 pub mod AliasWriting
 pub mod Counting
 pub mod Cuts

@@ -1,8 +1,8 @@
 -- The aliases: records and values in zone blocks, and a chain through the records, the newest first.
 use Prim.Native.Nat.{zero, suc}
-use Rattle.std.specs.Prelude.{◌≡◌, ◌≤◌, ℕ, ◌-◌, List, [], ◌∷◌, ◌++◌, length, take, drop, replicate, map, find, nat_eq, nat_lt, bytes_eq, Option, Some, None, Result, Ok, Err, if◌then◌else◌, option_and_then}
+use Rattle.std.specs.Prelude.{◌≡◌, ◌≢◌, IsTrue, option_map, ◌≤◌, ℕ, ◌-◌, List, [], ◌∷◌, ◌++◌, length, take, drop, replicate, map, find, nat_eq, nat_lt, bytes_eq, Option, Some, None, Result, Ok, Err, if◌then◌else◌, option_and_then}
 use Rattle.std.specs.Option.{unwrap_or}
-use Rattle.std.specs.List.{list_any}
+use Rattle.std.specs.List.{list_any, AllByRecursion}
 use Rattle.std.specs.Str.{str_eq_ignore_ascii_case}
 use Rattle.base_fields.specs.Fields.{u32_in, u32_bytes, with_field}
 use Rattle.base_fields.specs.Texts.{until_zero}
@@ -106,10 +106,29 @@ with_text texts name value =
     if list_any (λ (t : AliasText). bytes_eq t.name name) texts then with_value texts name value
     else record { name = name; value = value } ∷ texts
 
+-- the value of the newest text of exactly a name
+abbrev pub value_of : List AliasText → List ℕ → Option (List ℕ)
+value_of texts name = option_map (λ (t : AliasText). t.value) (find (λ (t : AliasText). bytes_eq t.name name) texts)
+
+-- that of the newest text of a name, in any case of its letters
+abbrev pub value_in_any_case : List AliasText → List ℕ → Option (List ℕ)
+value_in_any_case texts name =
+    option_map (λ (t : AliasText). t.value) (find (λ (t : AliasText). str_eq_ignore_ascii_case t.name name) texts)
+
+-- no text has the name in another case of its letters
+abbrev pub HasOneCase : List AliasText → List ℕ → Type 0
+HasOneCase texts name = AllByRecursion (λ (t : AliasText). IsTrue (str_eq_ignore_ascii_case t.name name) → t.name ≡ name) texts
+
+-- The name was given the value: it is read from then on, and each other name as before.
+pub record IsReadBack (before now : List AliasText) (name value : List ℕ) : Type 0 where
+  pub texts : now ≡ with_text before name value
+  pub own : value_of now name ≡ Some value
+  pub any_case : HasOneCase before name → value_in_any_case now name ≡ Some value
+  pub others : (other : List ℕ) → other ≢ name → value_of now other ≡ value_of before other
+
 -- the value of the newest alias of a name, in any case of its letters
 abbrev pub alias_value : Memory → Option ℕ → List ℕ → Option (List ℕ)
-alias_value m newest name =
-    option_and_then (λ (a : Alias). value_at m a.value_place) (find (λ (a : Alias). str_eq_ignore_ascii_case a.name name) (aliases_of m newest))
+alias_value m newest name = value_in_any_case (alias_texts m newest) name
 
 -- the newest record of the aliases behind the newest
 abbrev pub older_than : Memory → Option ℕ → Option ℕ

@@ -1,11 +1,13 @@
 // The aliases of the console.
-ghost use Rattle.std.specs.Prelude.{◌≡◌, ◌<◌, ◌≤◌, ◌^◌, ◌∷◌, Some, None, IsSome, length, drop, find, slice_get, bytes_eq, MatchOption, IfSome};
+ghost use Rattle.std.specs.Prelude.{◌≡◌, ◌<◌, ◌≤◌, ◌^◌, ◌∷◌, Some, None, IsSome, length, drop, find, slice_get, bytes_eq};
+ghost use Rattle.std.specs.Prelude.{MatchOption, IfSome, OnOk, OnErr};
 ghost use Rattle.std.specs.Option.{option_map};
 ghost use Rattle.mem_model.specs.Zone.{zone_bytes};
 ghost use Rattle.mem_model.specs.Hunk.{over};
 ghost use Rattle.mem_model.specs.Laid.{Laid, IsText};
 ghost use Rattle.zone_values.specs.Held.{OthersStay};
-ghost use Rattle.cmd_buffer.specs.Aliases.{place_of, number_of, spelled, aliases_of, alias_places, HoldsAliases, added, set_alias, alias_texts, alias_value, older_than};
+ghost use Rattle.cmd_buffer.specs.Aliases.{place_of, number_of, spelled, aliases_of, alias_places, HoldsAliases, added, set_alias};
+ghost use Rattle.cmd_buffer.specs.Aliases.{alias_texts, alias_value, older_than, IsReadBack};
 ghost use Rattle.cmd_buffer.specs.AliasCalls.{set_told, GivesSet};
 ghost use Rattle.cmd_buffer.specs.AliasRecords.{alias_of, alias_in, is_same};
 
@@ -94,6 +96,12 @@ impl Aliases {
         requires texts { IsText name.now × IsText value.now }
         requires short { length value.now < 2 ^ 62 }
         ensures gives { GivesSet (set_alias (M.state store.old) self.old name.now value.now) M.frugal (M.state store.old) self.old (set_told result) (M.state store.new) self.new }
+
+        // What was set is read back, and all else as before.
+        ensures read_back { OnOk result (IsReadBack (alias_texts (M.state store.old) self.old)
+            (alias_texts (M.state store.new) self.new) name.now value.now) }
+        ensures unset_read { OnErr result (alias_texts (M.state store.new) self.new ≡ alias_texts (M.state store.old) self.old) }
+
         ensures holds { HoldsAliases (M.state store.new) self.new }
         ensures others { OthersStay (M.state store.old) (M.state store.new) (alias_places (aliases_of (M.state store.old) self.old)) (alias_places (aliases_of (M.state store.new) self.new)) }
         ensures laid { Laid (M.state store.old) → Laid (M.state store.new) }

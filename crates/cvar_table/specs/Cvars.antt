@@ -1,6 +1,6 @@
 -- The cvars: variables of the console, each a name and the place of its value in the zone.
-use Rattle.std.specs.Prelude.{◌≡◌, ◌≢◌, ℕ, List, [], ◌∷◌, Bool, true, false, Option, Some, None, Result, Ok, Err, if◌then◌else◌}
-use Rattle.std.specs.Prelude.{map, find, bytes_eq, codes}
+use Rattle.std.specs.Prelude.{◌≡◌, ◌≢◌, ℕ, List, [], ◌∷◌, Bool, true, false, Option, Some, None, Result, Ok, Err}
+use Rattle.std.specs.Prelude.{if◌then◌else◌, map, find, bytes_eq, codes}
 use Rattle.std.specs.Option.{option_and_then}
 use Rattle.mem_model.specs.Memory.{Memory}
 use Rattle.mem_model.specs.Answer.{Answered}
@@ -95,4 +95,5 @@ ReadAlike old new before now = (name : List ℕ) → cvar_value new now name ≡
 
 -- so does that of each name but one
 abbrev pub OthersReadAlike : (old new : Memory) → (before now : List Cvar) → List ℕ → Type 0
-OthersReadAlike old new before now name = (other : List ℕ) → other ≢ name → cvar_value new now other ≡ cvar_value old before other
+OthersReadAlike old new before now name =
+    (other : List ℕ) → other ≢ name → cvar_value new now other ≡ cvar_value old before other

@@ -1,12 +1,14 @@
 //! The cvars: variables of the console with values in the zone.
 #![tactic(auto)]
 
-ghost use Rattle.std.specs.Prelude.{◌≡◌, ◌≢◌, ℕ, Ok, true, ◌<◌, ◌^◌, Some, None, MatchOption, is_some, IfSome, IfOk, OnErr};
+ghost use Rattle.std.specs.Prelude.{◌≡◌, ◌≢◌, ℕ, ◌<◌, ◌^◌, true, Some, None, Ok, MatchOption, is_some};
+ghost use Rattle.std.specs.Prelude.{IfSome, IfOk, OnErr};
 ghost use Rattle.std.specs.Prelude.{length, take, map, position, slice_get, bytes_eq};
 ghost use Rattle.std.specs.Option.{option_map};
 ghost use Rattle.mem_model.specs.Answer.{Gives};
 ghost use Rattle.mem_model.specs.Laid.{Laid, IsText};
-ghost use Rattle.cvar_table.specs.Cvars.{defaults, created, cvar_of, cvar_value, set_cvar, places_of, HoldsCvars, ReadAlike, OthersReadAlike};
+ghost use Rattle.cvar_table.specs.Cvars.{defaults, created, cvar_of, cvar_value, set_cvar, places_of, HoldsCvars};
+ghost use Rattle.cvar_table.specs.Cvars.{ReadAlike, OthersReadAlike};
 ghost use Rattle.zone_values.specs.Held.{OthersStay};
 ghost use Rattle.cvar_table.specs.Told.{zone_told};
 

@@ -1,7 +1,9 @@
 use Rattle.std.proofs.Common.{◌≡◌, ◌≤◌, ◌∙◌, ℕ, List, Some, None, Ok, length, refl, sym, ap, subst, arith}
 use Rattle.mem_model.specs.Zone.{with_zone_bytes}
 use Rattle.mem_model.proofs.ZoneLaying.{Laid-with_zone_bytes}
-use Rattle.cmd_buffer.specs.Aliases.{changed}
+use Rattle.std.specs.Prelude.{OnOk, OnErr}
+use Rattle.cmd_buffer.specs.Aliases.{changed, alias_texts, IsReadBack}
+use Rattle.cmd_buffer.proofs.AliasSetLaws.{reads_told}
 use Rattle.cmd_buffer.specs.AliasCalls.{IsSet}
 use Rattle.cmd_buffer.specs.AliasRecords.{alias_in}
 use Rattle.cmd_buffer.proofs.AliasAdding.{Stays}
@@ -99,3 +101,28 @@ returns-in-None-clause-gives g c =
     given_same _ _ _ m _ c.args.self.now c.add.new.self _
     (set_is_added m c.args.self.now c.args.name.now c.args.value.now fits (found_of m _ _ c.args.name.now None c.self.view_is c.in-None.ensures.found))
     c.add.ensures.gives
+
+-- what was set is read back, and all else as before
+reads_in_err : (g : Over) (c : goal.After-from_residual g) →
+    OnOk c.from_residual.result (IsReadBack (alias_texts (g.M.Store.state c.args.store.now) c.args.self.now) (alias_texts (g.M.Store.state c.replace_value.new.store) c.args.self.now) c.args.name.now c.args.value.now)
+    × OnErr c.from_residual.result (alias_texts (g.M.Store.state c.replace_value.new.store) c.args.self.now ≡ alias_texts (g.M.Store.state c.args.store.now) c.args.self.now)
+reads_in_err g c =
+    reads_told _ _ c.args.self.now c.args.self.now c.args.name.now c.args.value.now _ c.from_residual.result c.replace_value.ensures.was_laid c.requires.holds c.requires.texts.0 c.requires.texts.1 (returns-in_err-new-in-Some-clause-gives g c)
+
+pub returns-in_err-new-in-Some-clause-read_back : goal.returns-in_err-new-in-Some-clause-read_back
+returns-in_err-new-in-Some-clause-read_back g c = (reads_in_err g c).0
+
+pub returns-in_err-new-in-Some-clause-unset_read : goal.returns-in_err-new-in-Some-clause-unset_read
+returns-in_err-new-in-Some-clause-unset_read g c = (reads_in_err g c).1
+
+pub returns-in_ok-new-in-Some-clause-read_back : goal.returns-in_ok-new-in-Some-clause-read_back
+returns-in_ok-new-in-Some-clause-read_back g c =
+    (reads_told _ _ c.args.self.now c.args.self.now c.args.name.now c.args.value.now g.M.Store.frugal (Ok tt) c.replace_value.ensures.was_laid c.requires.holds c.requires.texts.0 c.requires.texts.1 (returns-in_ok-new-in-Some-clause-gives g c)).0
+
+pub returns-in-None-clause-read_back : goal.returns-in-None-clause-read_back
+returns-in-None-clause-read_back g c =
+    (reads_told _ _ c.args.self.now _ c.args.name.now c.args.value.now _ c.add.result c.add.ensures.was_laid c.requires.holds c.requires.texts.0 c.requires.texts.1 (returns-in-None-clause-gives g c)).0
+
+pub returns-in-None-clause-unset_read : goal.returns-in-None-clause-unset_read
+returns-in-None-clause-unset_read g c =
+    (reads_told _ _ c.args.self.now _ c.args.name.now c.args.value.now _ c.add.result c.add.ensures.was_laid c.requires.holds c.requires.texts.0 c.requires.texts.1 (returns-in-None-clause-gives g c)).1
