@@ -195,5 +195,5 @@ pub between-put_in : (bottom top : ℕ) (blocks : List CacheBlock) (b : CacheBlo
 between-put_in bottom top [] b a s h fits clear = (h, fits)
 between-put_in bottom top (c ∷ cs) b a s h fits clear =
     put_between bottom top c cs b a s.0 h (clear_first c cs b.place b.size clear)
-      (λ behind. between-put_in (end_of c) top cs b a.1 s.1 behind fits (clear_rest c cs b.place b.size clear))
-      (ltb c.place b.place) refl
+    (λ behind. between-put_in (end_of c) top cs b a.1 s.1 behind fits (clear_rest c cs b.place b.size clear))
+    (ltb c.place b.place) refl

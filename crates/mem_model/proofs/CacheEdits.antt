@@ -8,7 +8,8 @@ use Rattle.std.proofs.lemmas.List.{drop_all, take_all, append-nil}
 use Rattle.mem_model.specs.Blocks.{CacheBlock}
 use Rattle.mem_model.specs.Memory.{Cache}
 use Rattle.mem_model.specs.Cache.{put_in, without, without_block, without_user, moved, block_of}
-use Rattle.mem_model.specs.Gaps.{size_of_cache, IsMove, shifted}
+use Rattle.mem_model.specs.Gaps.{size_of_cache}
+use Rattle.mem_model.specs.Turns.{IsMove, shifted}
 use Rattle.mem_model.specs.Laid.{IsCache, count_in, users_of}
 use Rattle.mem_model.proofs.CacheBlocks.{find-some}
 use Rattle.mem_model.proofs.CacheMoves.{IsLater, later-without, later-moved}
@@ -87,7 +88,7 @@ moving c from to place b is h m =
     let once : count_in b.user c.recency ≡ 1 = omega (arith, is.recency b.user, is.one_each b.user, counted_at c.blocks from b h) in
     record {
       is = ap (λ blocks. record { blocks = blocks; recency = b.user ∷ without_user c.recency b.user }) (m.puts ∙ ap (λ rest. insert rest to (record b { place = place })) p.removed)
-        ∙ ap (λ users. record { blocks = insert (remove c.blocks from) to (record b { place = place }); recency = users }) (sym (shifted_is b.user b.user c.recency once));
+          ∙ ap (λ users. record { blocks = insert (remove c.blocks from) to (record b { place = place }); recency = users }) (sym (shifted_is b.user b.user c.recency once));
       order = (later-moved c b (2 ^ 32) 0 (2 ^ 26) place is p.found m.hop).cache;
       size = size-put_in (without_block c.blocks b.user) (record b { place = place }) ∙ omega (arith, ap size_of_cache p.removed, p.size);
     }

@@ -81,9 +81,9 @@ sound-low_alloc : (m : Memory) (size : ℕ) (name : List ℕ) → Laid m → IsT
 unfolding low_alloc
 sound-low_alloc m size name laid text =
     sound-noted _ (cond_both (ltb (room m) (hunk_need size)) (record { answer = Err (shortage m (hunk_need size)); after = m }) (record { answer = Ok (low_used m + 16); after = with_low m (hunk_block (hunk_need size) name) })
-      (λ (given : Answered (Result ℕ Shortage)). IsSound None m given.after)
-      (λ short. sound-stays None m laid)
-      (λ fits. sound-with_low m (hunk_block (hunk_need size) name) laid (IsHunkBlock-hunk_block size name text) (ltb-false (room m) (hunk_need size) fits)))
+    (λ (given : Answered (Result ℕ Shortage)). IsSound None m given.after)
+    (λ short. sound-stays None m laid)
+    (λ fits. sound-with_low m (hunk_block (hunk_need size) name) laid (IsHunkBlock-hunk_block size name text) (ltb-false (room m) (hunk_need size) fits)))
 
 -- a memory with one high block more, where no temporary block is active
 sound-with_high : (m : Memory) (b : HunkBlock) → Laid m → IsHunkBlock b → b.size ≤ room m → m.temp ≡ None → IsSound None m (with_high m b)
@@ -109,9 +109,9 @@ sound-high_taken : (m : Memory) (size : ℕ) (name : List ℕ) → Laid m → Is
 unfolding high_taken
 sound-high_taken m size name laid text none =
     cond_both (ltb (room m) (hunk_need size)) (record { answer = Err (shortage m (hunk_need size)); after = m }) (record { answer = Ok (high_start m - hunk_need size + 16); after = with_high m (hunk_block (hunk_need size) name) })
-      (λ (given : Answered (Result ℕ Shortage)). IsSound None m given.after)
-      (λ short. sound-stays None m laid)
-      (λ fits. sound-with_high m (hunk_block (hunk_need size) name) laid (IsHunkBlock-hunk_block size name text) (ltb-false (room m) (hunk_need size) fits) none)
+    (λ (given : Answered (Result ℕ Shortage)). IsSound None m given.after)
+    (λ short. sound-stays None m laid)
+    (λ fits. sound-with_high m (hunk_block (hunk_need size) name) laid (IsHunkBlock-hunk_block size name text) (ltb-false (room m) (hunk_need size) fits) none)
 
 sound-temp_freed : (m : Memory) (temp : Option ℕ) → Laid m → m.temp ≡ temp → IsSound None m (temp_freed m temp)
 sound-temp_freed m None laid e = sound-stays None m laid
@@ -138,9 +138,9 @@ marked_or_none : (m : Memory) (size : ℕ) (name : List ℕ) → Laid (high_take
 unfolding high_taken
 marked_or_none m size name laid none =
     cond_both (ltb (room m) (hunk_need size)) (record { answer = Err (shortage m (hunk_need size)); after = m }) (record { answer = Ok (high_start m - hunk_need size + 16); after = with_high m (hunk_block (hunk_need size) name) })
-      (λ (given : Answered (Result ℕ Shortage)). Laid given.after → Laid (record given.after { temp = if is_ok given.answer then Some (high_used m) else None }))
-      (λ short p. subst (λ temp. Laid (record m { temp = temp })) none p)
-      (λ fits p. marked m (hunk_block (hunk_need size) name) p) laid
+    (λ (given : Answered (Result ℕ Shortage)). Laid given.after → Laid (record given.after { temp = if is_ok given.answer then Some (high_used m) else None }))
+    (λ short p. subst (λ temp. Laid (record m { temp = temp })) none p)
+    (λ fits p. marked m (hunk_block (hunk_need size) name) p) laid
 
 text-temp : IsText (codes "temp")
 text-temp = search rules
@@ -165,9 +165,9 @@ cut_front start [] kept mark h =
     cond_both (eqb start mark) (Some []) None (λ o. o ≡ Some kept → (n : ℕ) × (kept ≡ take n [])) (λ e g. (0, cc)) (λ e g. absurd (cc)) h
 cut_front start (b ∷ bs) kept mark h =
     cond_both (eqb start mark) (Some []) (option_map (λ rest. b ∷ rest) (cut_from (start + b.size) bs mark)) (λ o. o ≡ Some kept → (n : ℕ) × (kept ≡ take n (b ∷ bs)))
-      (λ e g. (0, cc))
-      (λ e g. (let rest = mapped (λ rest. b ∷ rest) (cut_from (start + b.size) bs mark) kept g in let front = cut_front (start + b.size) bs rest.0 mark rest.1 in (suc front.0, rest.2 ∙ ap (λ xs. b ∷ xs) front.1)))
-      h
+    (λ e g. (0, cc))
+    (λ e g. (let rest = mapped (λ rest. b ∷ rest) (cut_from (start + b.size) bs mark) kept g in let front = cut_front (start + b.size) bs rest.0 mark rest.1 in (suc front.0, rest.2 ∙ ap (λ xs. b ∷ xs) front.1)))
+    h
 
 cut_low : (low kept : List HunkBlock) (mark : ℕ) → cut_above low mark ≡ Some kept → (n : ℕ) × (kept ≡ take (suc n) low)
 cut_low [] kept mark h = absurd (cc)
@@ -237,7 +237,7 @@ pub grown-cache_alloc : (m : Memory) (user size : ℕ) (name : List ℕ) → Lai
     IsGrown m.users (low_used m) (high_start m) (cache_need size) user name m.cache (with_new m.cache (low_used m) (high_start m) (cache_need size) user name)
 grown-cache_alloc m user size name laid known text free some fits =
     grown-with_new m.cache (low_used m) (high_start m) (cache_need size) user m.users name laid.cache (omega (arith, ltb-false (room m) (cache_need size) fits, laid.inside))
-      (find-none user m.cache.blocks (unfound (block_of m.cache user) free)) (λ place. IsCacheBlock-new_block m.users size user place name known (omega (arith, λ (e : size ≡ 0). eqb-false size 0 some e)) text)
+    (find-none user m.cache.blocks (unfound (block_of m.cache user) free)) (λ place. IsCacheBlock-new_block m.users size user place name known (omega (arith, λ (e : size ≡ 0). eqb-false size 0 some e)) text)
 
 sound-grown : (m : Memory) (size user : ℕ) (name : List ℕ) (c : Cache) → Laid m → IsGrown m.users (low_used m) (high_start m) size user name m.cache c → IsSound (Some user) m (record m { cache = c })
 sound-grown m size user name c laid grown = record { laid = Laid-with_cache m c laid grown.cache; keeps = record { others = λ other b is h. grown.others other b is h } }
@@ -249,19 +249,18 @@ sound-cache_alloc m user size name laid known text =
     let stays = sound-stays (Some user) m laid in
     let need = cache_need size in
     sound-noted _ (cond_both (is_some (block_of m.cache user)) _ _ P (λ occupied. stays) (λ free.
-      cond_both (eqb size 0) _ _ P (λ none. stays) (λ some.
-        cond_both (ltb (room m) need) _ _ P (λ short. stays) (λ fits. sound-grown m need user name _ laid (grown-cache_alloc m user size name laid known text free some fits)))))
-
+    cond_both (eqb size 0) _ _ P (λ none. stays) (λ some.
+    cond_both (ltb (room m) need) _ _ P (λ short. stays) (λ fits. sound-grown m need user name _ laid (grown-cache_alloc m user size name laid known text free some fits)))))
 
 touched_same : (c : Cache) (user other : ℕ) → 0 < count_in user (users_of c.blocks) → count_in user (users_of c.blocks) ≤ 1 → count_in user c.recency ≡ count_in user (users_of c.blocks) →
     count_in other (touched c user).recency ≡ count_in other c.recency
 touched_same c user other some few same =
     elim (eqb_tells user other) [
       | inl at ↦ (let gone : count_in other (without_user c.recency user) ≡ 0 = ap (λ u. count_in u (without_user c.recency user)) (sym at.1) ∙ count-gone (λ u. not (nat_eq u user)) user c.recency (rw (eq-eqb user user refl) refl) in
-        let was : count_in other c.recency ≡ count_in user c.recency = ap (λ u. count_in u c.recency) (sym at.1) in
-        rw at.0 (omega arith))
+          let was : count_in other c.recency ≡ count_in user c.recency = ap (λ u. count_in u c.recency) (sym at.1) in
+          rw at.0 (omega arith))
       | inr off ↦ (let stays : count_in other (without_user c.recency user) ≡ count_in other c.recency = count-stays (λ u. not (nat_eq u user)) other c.recency (rw (ne_eqb other user (λ e. off.1 (sym e))) refl) in
-        rw off.0 (omega arith))
+          rw off.0 (omega arith))
     ]
 
 found : (o : Option CacheBlock) → is_some o ≡ true → (b : CacheBlock) × (o ≡ Some b)
@@ -286,11 +285,11 @@ sound-check : (m : Memory) (user : ℕ) → Laid m → IsSound None m (check m u
 unfolding check
 sound-check m user laid =
     sound-noted _ (cond_both (is_some (block_of m.cache user)) (record m { cache = touched m.cache user }) m (λ (n : Memory). IsSound None m n)
-      (λ some. record {
-        laid = Laid-with_cache m (touched m.cache user) laid (IsCache-touched m.cache m.users (low_used m) (high_start m) user laid.cache some);
-        keeps = keeps_by None m _ (record { holds = λ other b h. sym (held-touched m.cache user other) ∙ h });
-      })
-      (λ none. sound-stays None m laid))
+    (λ some. record {
+      laid = Laid-with_cache m (touched m.cache user) laid (IsCache-touched m.cache m.users (low_used m) (high_start m) user laid.cache some);
+      keeps = keeps_by None m _ (record { holds = λ other b h. sym (held-touched m.cache user other) ∙ h });
+    })
+    (λ none. sound-stays None m laid))
 
 sound-cache_free : (m : Memory) (user : ℕ) → Laid m → IsSound None m (cache_free m user).after
 unfolding cache_free
@@ -394,8 +393,8 @@ unfolding cache_alloc
 held-new m user size name laid known text h =
     let P = λ (given : Answered (Result (Unit {0}) Rattle.mem_model.specs.Event.CacheRefusal)). given.answer ≡ Ok tt → held given.after.cache user ≡ Some (new_block 0 (cache_need size) user name) in
     ap (λ c. held c user) (cache-with_event _ _) ∙ cond_both (is_some (block_of m.cache user)) _ _ P (λ occupied g. absurd (cc)) (λ free.
-      cond_both (eqb size 0) _ _ P (λ none g. absurd (cc)) (λ some.
-        cond_both (ltb (room m) (cache_need size)) _ _ P (λ short g. absurd (cc)) (λ fits g. (grown-cache_alloc m user size name laid known text free some fits).own))) h
+    cond_both (eqb size 0) _ _ P (λ none g. absurd (cc)) (λ some.
+    cond_both (ltb (room m) (cache_need size)) _ _ P (λ short g. absurd (cc)) (λ fits g. (grown-cache_alloc m user size name laid known text free some fits).own))) h
 
 -- An operation of the low hunk leaves all beside the low hunk, the cache and the events; the high hunk's likewise.
 pub beside-low_alloc : (m : Memory) (size : ℕ) (name : List ℕ) → beside_low (low_alloc m size name).after ≡ beside_low m
@@ -454,7 +453,7 @@ unfolding cache_alloc
 beside-cache_alloc m user size name =
     left-with_event beside_cache (λ n events. refl) _ _
     ∙ left-either beside_cache (is_some (block_of m.cache user)) _ _ (beside_cache m) refl
-      (left-either beside_cache (eqb size 0) _ _ (beside_cache m) refl (left-either beside_cache (ltb (room m) (cache_need size)) _ _ (beside_cache m) refl refl))
+    (left-either beside_cache (eqb size 0) _ _ (beside_cache m) refl (left-either beside_cache (ltb (room m) (cache_need size)) _ _ (beside_cache m) refl refl))
 
 pub beside-check : (m : Memory) (user : ℕ) → beside_cache (check m user).after ≡ beside_cache m
 unfolding check

@@ -11,7 +11,8 @@ use Rattle.mem_model.specs.Memory.{Cache}
 use Rattle.mem_model.specs.Places.{end_of, is_clear, has_above, least, lesser, hop, fit}
 use Rattle.mem_model.specs.Cache.{put_in, without, without_user, without_block, touched, block_of, moved, hopped_to, hopped, lowest_below, highest_above, turned, up_in, down_in, pushed_up, pushed_down, kept, with_block}
 use Rattle.mem_model.specs.Laid.{AreBetween, IsCache, IsCacheBlock, count_in, users_of}
-use Rattle.mem_model.specs.Gaps.{HasSize, IsHop}
+use Rattle.mem_model.specs.Gaps.{HasSize}
+use Rattle.mem_model.specs.Turns.{IsHop}
 use Rattle.mem_model.specs.Keeps.{held, unplaced}
 use Rattle.mem_model.proofs.CacheBlocks.{find-stays, find-gone, find-put_other, find-put_own, find-none, find-some, find-absent, count-stays, count-gone, users_of-filter, count-put_in, count-append, all-filter, all-put_in, between_from, between_to, between-spans, between-filter, between-put_in, clear-filter, clear_below}
 use Rattle.mem_model.proofs.Pushes.{passes-least, IsRising, StartsAbove, pushed_up-ends, pushed_down-ends}
@@ -76,7 +77,7 @@ later-staying q c recency users bottom top r is = record {
 pub later-without : (c : Cache) (users bottom top user : ℕ) → IsCache c users bottom top → IsLater users bottom top c (without c user)
 later-without c users bottom top user is =
     later-staying (λ u. not (nat_eq u user)) c (without_user c.recency user) users bottom top
-      (record { stay = λ u e. count-stays (λ v. not (nat_eq v user)) u c.recency e; gone = λ u e. count-gone (λ v. not (nat_eq v user)) u c.recency e }) is
+    (record { stay = λ u e. count-stays (λ v. not (nat_eq v user)) u c.recency e; gone = λ u e. count-gone (λ v. not (nat_eq v user)) u c.recency e }) is
 
 pub count-without : (c : Cache) (user : ℕ) → count_in user (users_of (without c user).blocks) ≡ 0
 count-without c user = ap (count_in user) (users_of-filter (λ u. not (nat_eq u user)) c.blocks) ∙ count-gone (λ u. not (nat_eq u user)) user (users_of c.blocks) (rw (eq-eqb user user refl) refl)
@@ -106,10 +107,10 @@ pub later-kept : (c : Cache) (users bottom top n : ℕ) → IsCache c users bott
 later-kept c users bottom top n is =
     let stay = length c.recency - n in
     later-staying (λ u. not (list_any (nat_eq u) (drop stay c.recency))) c (take stay c.recency) users bottom top
-      (record {
-        stay = λ u e. omega (arith, count-parts u stay c.recency, none-counted u (drop stay c.recency) (not-true _ e));
-        gone = λ u e. omega (arith, count-parts u stay c.recency, any-counted u (drop stay c.recency) (not-false _ e), is.recency u, is.one_each u);
-      }) is
+    (record {
+      stay = λ u e. omega (arith, count-parts u stay c.recency, none-counted u (drop stay c.recency) (not-true _ e));
+      gone = λ u e. omega (arith, count-parts u stay c.recency, any-counted u (drop stay c.recency) (not-false _ e), is.recency u, is.one_each u);
+    }) is
 
 pub has_sizes : (users : ℕ) (blocks : List CacheBlock) → AllByRecursion (IsCacheBlock users) blocks → AllByRecursion HasSize blocks
 has_sizes users [] a = tt
@@ -120,7 +121,7 @@ one_more : (user : ℕ) (b : CacheBlock) (blocks : List CacheBlock) → count_in
 one_more user b blocks none few =
     elim (eqb_tells b.user user) [
       | inl at ↦ (let absent : count_in user (users_of blocks) ≡ 0 = ap (λ u. count_in u (users_of blocks)) (sym at.1) ∙ none in
-        let counted : count_in user (users_of (put_in blocks b)) ≡ 1 + count_in user (users_of blocks) = rw at.0 at (count-put_in user blocks b) in omega arith)
+          let counted : count_in user (users_of (put_in blocks b)) ≡ 1 + count_in user (users_of blocks) = rw at.0 at (count-put_in user blocks b) in omega arith)
       | inr off ↦ (let counted : count_in user (users_of (put_in blocks b)) ≡ 0 + count_in user (users_of blocks) = rw off.0 at (count-put_in user blocks b) in omega arith)
     ]
 
@@ -152,8 +153,8 @@ keeps-moved : (c : Cache) (b : CacheBlock) (place user : ℕ) (x : CacheBlock) �
 keeps-moved c b place user x there rest h =
     elim (eqb_tells b.user user) [
       | inl at ↦ (let was : held c user ≡ Some (unplaced b) = ap (held c) (sym at.1) ∙ held_is c b.user b there in
-        let now : held (moved c b place) user ≡ Some (unplaced b) = ap (held (moved c b place)) (sym at.1) ∙ held-with_block (without c b.user) (record b { place = place }) (count-without c b.user) in
-        was ∙ sym now ∙ h)
+          let now : held (moved c b place) user ≡ Some (unplaced b) = ap (held (moved c b place)) (sym at.1) ∙ held-with_block (without c b.user) (record b { place = place }) (count-without c b.user) in
+          was ∙ sym now ∙ h)
       | inr off ↦ rest.holds user x (sym (held-with_other (without c b.user) (record b { place = place }) user off.1) ∙ h)
     ]
 
@@ -176,13 +177,13 @@ least_among P p (x ∷ xs) n a h =
       | true ↦ λ e. (let same : lesser x (least (filter p xs)) ≡ n = cc in subst P same (lesser_among P p x xs (least (filter p xs)) a.0 (λ k g. least_among P p xs k a.1 g)))
       | false ↦ λ e. least_among P p xs n a.1 e
     ] h where
-  lesser_among : (P : ℕ → Type 0) (p : ℕ → Bool) (x : ℕ) (xs : List ℕ) (o : Option ℕ) → P x → ((k : ℕ) → o ≡ Some k → P k) → P (lesser x o)
-  lesser_among P p x xs None here rest = here
-  lesser_among P p x xs (Some k) here rest =
-      elim (eqb_tells (Rattle.std.proofs.Common.min x k) x) [
-        | inl same ↦ subst P (sym same.1) here
-        | inr other ↦ (let same : Rattle.std.proofs.Common.min x k ≡ k = omega (arith, other.1) in subst P (sym same) (rest k refl))
-      ]
+      lesser_among : (P : ℕ → Type 0) (p : ℕ → Bool) (x : ℕ) (xs : List ℕ) (o : Option ℕ) → P x → ((k : ℕ) → o ≡ Some k → P k) → P (lesser x o)
+      lesser_among P p x xs None here rest = here
+      lesser_among P p x xs (Some k) here rest =
+          elim (eqb_tells (Rattle.std.proofs.Common.min x k) x) [
+            | inl same ↦ subst P (sym same.1) here
+            | inr other ↦ (let same : Rattle.std.proofs.Common.min x k ≡ k = omega (arith, other.1) in subst P (sym same) (rest k refl))
+          ]
 
 pub ends_above : (low bottom top : ℕ) (blocks : List CacheBlock) → low ≤ bottom → AreBetween bottom top blocks → AllByRecursion (λ place. low ≤ place) (map end_of blocks)
 ends_above low bottom top [] h a = tt
@@ -210,7 +211,7 @@ later-moved c b users bottom high place is there hops =
     let left = later-without c users bottom high b.user is in
     record {
       cache = cache-with_block (without c b.user) (record b { place = place }) users bottom high left.cache (block_at users place b (found_block (IsCacheBlock users) b.user c.blocks b is.blocks there))
-        (count-without c b.user) hops.above hops.below (clear-filter (λ x. not (nat_eq x.user b.user)) c.blocks place b.size hops.clear);
+          (count-without c b.user) hops.above hops.below (clear-filter (λ x. not (nat_eq x.user b.user)) c.blocks place b.size hops.clear);
       keeps = record { holds = λ user x h. keeps-moved c b place user x there left.keeps h };
     }
 

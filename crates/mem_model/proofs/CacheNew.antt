@@ -8,7 +8,7 @@ use Rattle.mem_model.specs.Memory.{Cache}
 use Rattle.mem_model.specs.Places.{end_of, is_clear, least, lesser, fit}
 use Rattle.mem_model.specs.Cache.{kept, with_block, with_new, evictions, new_block, placed, made_room}
 use Rattle.mem_model.specs.Laid.{AreBetween, IsCache, IsCacheBlock, count_in, users_of}
-use Rattle.mem_model.specs.Gaps.{IsHop}
+use Rattle.mem_model.specs.Turns.{IsHop}
 use Rattle.mem_model.specs.Keeps.{held, unplaced}
 use Rattle.mem_model.proofs.CacheBlocks.{users_of-filter, count-stays, count-gone}
 use Rattle.mem_model.proofs.CacheMoves.{Keeps, IsLater, least_among, ends_above, later-kept, none-counted, cache-with_block, held-with_block, held-with_other}
@@ -83,11 +83,14 @@ evictions_are c bottom top size users is fits =
 -- Where the need fits between the two places, a new block always comes.
 pub with_new_is : (c : Cache) (bottom top size user users : ℕ) (name : List ℕ) → IsCache c users bottom top → bottom + size ≤ top → (n : ℕ) × (place : ℕ) × IsPlaced c bottom top size user name n place
 with_new_is c bottom top size user users name is fits =
-    let found = evictions_are c bottom top size users is fits in
-    (found.0, found.1, record {
-      hop = fit_is (kept c found.0).blocks bottom top size found.1 (later-kept c users bottom top found.0 is).cache.between found.3;
-      is = with_new-placed c bottom top size user found.0 found.1 name found.2 found.3;
-    })
+    let found = evictions_are c bottom top size users is fits in (
+      found.0,
+      found.1,
+      record {
+        hop = fit_is (kept c found.0).blocks bottom top size found.1 (later-kept c users bottom top found.0 is).cache.between found.3;
+        is = with_new-placed c bottom top size user found.0 found.1 name found.2 found.3;
+      },
+    )
 
 pub none-filtered : (q : ℕ → Bool) (user : ℕ) (blocks : List CacheBlock) (t : Bool) → q user ≡ t → count_in user (users_of blocks) ≡ 0 → count_in user (users_of (filter (λ b. q b.user) blocks)) ≡ 0
 none-filtered q user blocks true e h = ap (count_in user) (users_of-filter q blocks) ∙ count-stays q user (users_of blocks) e ∙ h

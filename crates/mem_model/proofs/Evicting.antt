@@ -11,7 +11,8 @@ use Rattle.mem_model.specs.Blocks.{CacheBlock}
 use Rattle.mem_model.specs.Memory.{Cache, cache_of}
 use Rattle.mem_model.specs.Places.{end_of, least, lesser, fit}
 use Rattle.mem_model.specs.Cache.{put_in, kept, with_block, with_new, evictions, new_block, without, without_user, without_block}
-use Rattle.mem_model.specs.Gaps.{gap_from, start_of, edge, IsGap, IsAround, IsEvicted, HasSize, size_of_cache}
+use Rattle.mem_model.specs.Gaps.{gap_from, start_of, IsGap, HasSize, size_of_cache}
+use Rattle.mem_model.specs.Turns.{edge, IsAround, IsEvicted}
 use Rattle.mem_model.specs.Laid.{AreBetween, IsCache, count_in, users_of}
 use Rattle.mem_model.proofs.CacheBlocks.{between-spans, find-none, find-some, users_of-filter, count-stays, count-gone, count-append}
 use Rattle.mem_model.proofs.CacheMoves.{has_sizes, later-without}
@@ -126,7 +127,7 @@ kept_more c front u n e once =
     let stays : length c.recency - suc n ≡ length front - n = omega arith in
     let stay = length front - n in
     let goes : (b : CacheBlock) → not (list_any (nat_eq b.user) (drop (length front - n) c.recency)) ≡ (not (nat_eq b.user u) && not (list_any (nat_eq b.user) (drop (length front - n) front))) =
-      λ (b : CacheBlock). ap (λ us. not (list_any (nat_eq b.user) us)) (ap (drop (length front - n)) e ∙ drop_front (length front - n) front u (omega arith)) ∙ ap not (any_append (nat_eq b.user) (drop (length front - n) front) u) ∙ not_or (list_any (nat_eq b.user) (drop (length front - n) front)) (nat_eq b.user u) in
+    λ (b : CacheBlock). ap (λ us. not (list_any (nat_eq b.user) us)) (ap (drop (length front - n)) e ∙ drop_front (length front - n) front u (omega arith)) ∙ ap not (any_append (nat_eq b.user) (drop (length front - n) front) u) ∙ not_or (list_any (nat_eq b.user) (drop (length front - n) front)) (nat_eq b.user u) in
     ap (λ k. record { blocks = filter (λ b. not (list_any (nat_eq b.user) (drop k c.recency))) c.blocks; recency = take k c.recency }) stays
     ∙ ap (λ blocks. record { blocks = blocks; recency = take (length front - n) c.recency }) (filter_twice (λ b. not (list_any (nat_eq b.user) (drop (length front - n) front))) (λ b. not (nat_eq b.user u)) (λ b. not (list_any (nat_eq b.user) (drop (length front - n) c.recency))) c.blocks goes)
     ∙ ap (λ users. record { blocks = filter (λ b. not (list_any (nat_eq b.user) (drop (length front - n) front))) (without_block c.blocks u); recency = users }) (ap (take (length front - n)) e ∙ take_front (length front - n) front u (omega arith))
@@ -146,7 +147,7 @@ with_new-evicts c bottom top size u user front name is fits e none =
     let long : length c.recency ≡ suc (length (without c u).recency) = omega (arith, ap length e, length-append front (u ∷ []), ap length left) in
     let skip : least (filter (fits_after c bottom top size) (range_with_len 0 (suc (length c.recency)))) ≡ least (filter (fits_after c bottom top size) (range_with_len 1 (length c.recency))) = rw off refl in
     let some : evictions c bottom top size ≡ Some (suc found.0) =
-      skip ∙ ap (λ n. least (filter (fits_after c bottom top size) (range_with_len 1 n))) long ∙ least_shifted (fits_after c bottom top size) (fits_after (without c u) bottom top size) 0 1 (suc (length (without c u).recency)) refl same ∙ ap (option_map suc) found.2 in
+    skip ∙ ap (λ n. least (filter (fits_after c bottom top size) (range_with_len 1 n))) long ∙ least_shifted (fits_after c bottom top size) (fits_after (without c u) bottom top size) 0 1 (suc (length (without c u).recency)) refl same ∙ ap (option_map suc) found.2 in
     with_new-placed (without c u) bottom top size user found.0 found.1 name found.2 found.3
     ∙ ap (λ d. with_block d (new_block found.1 size user name)) (sym (kept_more c front u found.0 e once))
     ∙ sym (with_new-placed c bottom top size user (suc found.0) found.1 name some (ap (λ (d : Cache). fit d.blocks bottom top size) (kept_more c front u found.0 e once) ∙ found.3))
@@ -183,6 +184,7 @@ around_first (c ∷ cs) start size top x a s none = record {
 } where
   later : (end : ℕ) → gap_from end size top (c ∷ cs) ≡ None → gap_from (end_of c) size top cs ≡ None
   later end h = cond_both (leb (end + size) c.place) (Some end) (gap_from (end_of c) size top cs) (λ o. o ≡ None → gap_from (end_of c) size top cs ≡ None) (λ e g. absurd (cc)) (λ e g. g) h
+
   rest : (x : CacheBlock) → gap_from start size top (x ∷ c ∷ cs) ≡ None → gap_from (end_of c) size top cs ≡ None
   rest x h = later (end_of x) (cond_both (leb (start + size) x.place) (Some start) (gap_from (end_of x) size top (c ∷ cs)) (λ o. o ≡ None → gap_from (end_of x) size top (c ∷ cs) ≡ None) (λ e g. absurd (cc)) (λ e g. g) h)
 
@@ -202,8 +204,8 @@ around blocks start size top zero x a s some inside none = around_first blocks s
 around [] start size top (suc at) x a s some inside none = absurd (omega arith)
 around (y ∷ ys) start size top (suc at) x a s some inside none =
     cond_both (leb (start + size) y.place) (Some start) (gap_from (end_of y) size top (insert ys at x)) (λ o. o ≡ None → IsAround (y ∷ ys) start size top (suc at))
-      (λ e g. absurd (cc))
-      (λ e g. around_more y ys start size top at a s (leb-false (start + size) y.place e) (around ys (end_of y) size top at x a.1 s.1 some (omega arith) g)) none
+    (λ e g. absurd (cc))
+    (λ e g. around_more y ys start size top at a s (leb-false (start + size) y.place e) (around ys (end_of y) size top at x a.1 s.1 some (omega arith) g)) none
 
 -- a block that stands at a position, taken out and put back
 pub taken_out : (blocks : List CacheBlock) (at : ℕ) (b : CacheBlock) → slice_get blocks at ≡ Some b → (insert (remove blocks at) at b ≡ blocks) × (length (remove blocks at) + 1 ≡ length blocks) × (at ≤ length (remove blocks at))
@@ -222,15 +224,15 @@ pub position_some : (user : ℕ) (blocks : List CacheBlock) (at : ℕ) → posit
 position_some user blocks at h =
     let p = λ (b : CacheBlock). nat_eq b.user user in
     cond_both (ltb (position_or_len p blocks) (length blocks)) (Some (position_or_len p blocks)) None (λ o. o ≡ Some at → (at < length blocks) × (find p blocks ≡ slice_get blocks at))
-      (λ e g. (let same : position_or_len p blocks ≡ at = cc in (omega (arith, ltb-true (position_or_len p blocks) (length blocks) e), find_at p blocks ∙ ap (slice_get blocks) same)))
-      (λ e g. absurd (cc)) h
+    (λ e g. (let same : position_or_len p blocks ≡ at = cc in (omega (arith, ltb-true (position_or_len p blocks) (length blocks) e), find_at p blocks ∙ ap (slice_get blocks) same)))
+    (λ e g. absurd (cc)) h
 
 pub position_none : (user : ℕ) (blocks : List CacheBlock) → position (λ b. nat_eq b.user user) blocks ≡ None → find (λ b. nat_eq b.user user) blocks ≡ None
 position_none user blocks h =
     let p = λ (b : CacheBlock). nat_eq b.user user in
     cond_both (ltb (position_or_len p blocks) (length blocks)) (Some (position_or_len p blocks)) None (λ o. o ≡ None → find p blocks ≡ None)
-      (λ e g. absurd (cc))
-      (λ e g. find_at p blocks ∙ slice_get_past blocks (position_or_len p blocks) (ltb-false (position_or_len p blocks) (length blocks) e)) h
+    (λ e g. absurd (cc))
+    (λ e g. find_at p blocks ∙ slice_get_past blocks (position_or_len p blocks) (ltb-false (position_or_len p blocks) (length blocks) e)) h
 
 pub end_at : (blocks : List CacheBlock) (low high at : ℕ) (b : CacheBlock) → AreBetween low high blocks → slice_get blocks at ≡ Some b → end_of b ≤ high
 end_at [] low high at b a h = absurd (cc)
@@ -287,6 +289,7 @@ nobody_left c bottom top size is fits none full = empty c.blocks (λ user. is.re
   uncounted : (user : ℕ) (users : List ℕ) → length users ≡ 0 → count_in user users ≡ 0
   uncounted user [] h = refl
   uncounted user (x ∷ xs) h = absurd (omega arith)
+
   empty : (blocks : List CacheBlock) → ((user : ℕ) → count_in user c.recency ≡ count_in user (users_of blocks)) → gap_from bottom size top blocks ≡ None → ⊥
   empty [] same h = (let found : Some bottom ≡ None = rw (le-leb (bottom + size) top fits) at h in absurd (cc))
   empty (b ∷ bs) same h = omega (arith, same b.user, uncounted b.user c.recency none, rw (eq-eqb b.user b.user refl) at (same b.user))

@@ -8,7 +8,8 @@ use Rattle.mem_model.specs.Blocks.{CacheBlock}
 use Rattle.mem_model.specs.Memory.{Cache, cache_of}
 use Rattle.mem_model.specs.Places.{end_of, hop}
 use Rattle.mem_model.specs.Cache.{put_in, without, without_user, without_block, moved, hopped, hopped_to, highest_above, turned, down_in, pushed_down}
-use Rattle.mem_model.specs.Gaps.{gap_from, size_of_cache, IsGap, IsMove, IsFall, HasSize, depth}
+use Rattle.mem_model.specs.Gaps.{gap_from, size_of_cache, IsGap, HasSize}
+use Rattle.mem_model.specs.Turns.{IsMove, IsFall, depth}
 use Rattle.mem_model.specs.Laid.{AreBetween, IsCache, count_in, users_of}
 use Rattle.mem_model.proofs.CacheBlocks.{between-spans}
 use Rattle.mem_model.proofs.CacheMoves.{has_sizes, hop_is, rising, later-hopped, found_highest, below_top}
@@ -35,9 +36,9 @@ down_in-enough zero m c top r p q = down_done zero top c (none_high top c.blocks
 down_in-enough (suc n) zero c top r p q = down_done (suc n) top c (none_high top c.blocks q) ∙ sym (down_done zero top c (none_high top c.blocks q))
 down_in-enough (suc n) (suc m) c top r p q =
     turns (highest_above top c.blocks) refl (λ b turn. down_in-enough n m (hopped top c b) top turn.rising (omega (arith, turn.lower)) (omega (arith, turn.lower))) where
-  turns : (o : Option CacheBlock) → highest_above top c.blocks ≡ o → ((b : CacheBlock) → IsTurnDown c.blocks (hopped top c b).blocks → down_in n top (hopped top c b) ≡ down_in m top (hopped top c b)) → down_in (suc n) top c ≡ down_in (suc m) top c
-  turns None e rest = down_done (suc n) top c e ∙ sym (down_done (suc m) top c e)
-  turns (Some b) e rest = down_one n top c b e ∙ rest b (turn_down top c b r e) ∙ sym (down_one m top c b e)
+      turns : (o : Option CacheBlock) → highest_above top c.blocks ≡ o → ((b : CacheBlock) → IsTurnDown c.blocks (hopped top c b).blocks → down_in n top (hopped top c b) ≡ down_in m top (hopped top c b)) → down_in (suc n) top c ≡ down_in (suc m) top c
+      turns None e rest = down_done (suc n) top c e ∙ sym (down_done (suc m) top c e)
+      turns (Some b) e rest = down_one n top c b e ∙ rest b (turn_down top c b r e) ∙ sym (down_one m top c b e)
 
 -- the same between other bounds
 order_to : (c : Cache) (size : ℕ) → IsCache c (2 ^ 32) 0 (2 ^ 26) → AreBetween 0 size c.blocks → IsCache c (2 ^ 32) 0 size
@@ -159,9 +160,9 @@ fall_crowded {top} {x} {middle} {b} {recency} l full = gap_crowded middle (end_o
 pub high_middle : {top : ℕ} {x : CacheBlock} {middle : List CacheBlock} {b : CacheBlock} {recency : List ℕ} → IsHigh top (x ∷ middle) b recency → (AreBetween (end_of x) b.place middle) × (AllByRecursion HasSize middle) × (end_of b ≤ 2 ^ 26)
 high_middle {top} {x} {middle} {b} {recency} l =
     (between_front middle (end_of x) (2 ^ 26) b l.order.between.1, sized_front middle b (has_sizes (2 ^ 32) (x ∷ (middle ++ b ∷ [])) l.order.blocks).1, last_ends (x ∷ middle) 0 b l.order.between) where
-  last_ends : (front : List CacheBlock) (low : ℕ) (b : CacheBlock) → AreBetween low (2 ^ 26) (front ++ b ∷ []) → end_of b ≤ 2 ^ 26
-  last_ends [] low b a = a.1
-  last_ends (c ∷ cs) low b a = last_ends cs (end_of c) b a.1
+      last_ends : (front : List CacheBlock) (low : ℕ) (b : CacheBlock) → AreBetween low (2 ^ 26) (front ++ b ∷ []) → end_of b ≤ 2 ^ 26
+      last_ends [] low b a = a.1
+      last_ends (c ∷ cs) low b a = last_ends cs (end_of c) b a.1
 
 pub some_above : (top : ℕ) (front : List CacheBlock) (b : CacheBlock) → ltb top (end_of b) ≡ is_some (highest_above top (front ++ b ∷ []))
 some_above top front b = sym (ap is_some (highest_last top front b) ∙ either (ltb top (end_of b))) where

@@ -66,17 +66,17 @@ hop_past : (size top : ℕ) (b : CacheBlock) (blocks : List CacheBlock) (place :
 unfolding hop_test
 hop_past size top b blocks place s h =
     rw (le-leb (end_of b) place h, lt-leb place b.place (omega arith)) (ap (λ t. t && (has_above blocks place || leb (place + size) top)) (ap (λ t. t && is_clear blocks place size) (or_true (leb (place + size) b.place)))) where
-  or_true : (t : Bool) → (t || true) ≡ true
-  or_true true = refl
-  or_true false = refl
+      or_true : (t : Bool) → (t || true) ≡ true
+      or_true true = refl
+      or_true false = refl
 
 -- The hop is the first gap behind the lowest block.
 pub hop_gap : (x : CacheBlock) (xs : List CacheBlock) (b : CacheBlock) (low high top : ℕ) → AreBetween low high (x ∷ xs) → AllByRecursion HasSize (x ∷ xs) → hop (x ∷ xs) b top ≡ gap_from (end_of x) b.size top xs
 unfolding hop hop_test
 hop_gap x xs b low high top a s =
     least_gap (hop_test b.size top) (hop_test b.size top (x ∷ xs)) b.size top high (end_of x) xs
-      (record { here = λ place blocks. hop_here b.size top high place blocks; past = λ c blocks place. hop_past b.size top c blocks place })
-      a.1 s.1 (λ place h. hop_past b.size top x xs place s.0 h)
+    (record { here = λ place blocks. hop_here b.size top high place blocks; past = λ c blocks place. hop_past b.size top c blocks place })
+    a.1 s.1 (λ place h. hop_past b.size top x xs place s.0 h)
 
 fit_test : ℕ → ℕ → List CacheBlock → ℕ → Bool
 fit_test size top blocks place = leb (place + size) top && is_clear blocks place size
@@ -94,17 +94,17 @@ fit_past : (size top : ℕ) (b : CacheBlock) (blocks : List CacheBlock) (place :
 unfolding fit_test
 fit_past size top b blocks place s h =
     rw (le-leb (end_of b) place h) (ap (λ t. leb (place + size) top && (t && is_clear blocks place size)) (or_true (leb (place + size) b.place))) where
-  or_true : (t : Bool) → (t || true) ≡ true
-  or_true true = refl
-  or_true false = refl
+      or_true : (t : Bool) → (t || true) ≡ true
+      or_true true = refl
+      or_true false = refl
 
 -- The fit is the first gap from the bottom on.
 pub fit_gap : (blocks : List CacheBlock) (bottom top size : ℕ) → AreBetween bottom top blocks → AllByRecursion HasSize blocks → fit blocks bottom top size ≡ gap_from bottom size top blocks
 unfolding fit fit_test
 fit_gap blocks bottom top size a s =
     least_gap (fit_test size top) (fit_test size top blocks) size top top bottom blocks
-      (record { here = λ place rest. fit_here size top place rest; past = λ c rest place. fit_past size top c rest place })
-      a s (λ place h. refl)
+    (record { here = λ place rest. fit_here size top place rest; past = λ c rest place. fit_past size top c rest place })
+    a s (λ place h. refl)
 
 -- The blocks lie between the two places.
 pub filled : (blocks : List CacheBlock) (start top : ℕ) → AreBetween start top blocks → start + size_of_cache blocks ≤ top
@@ -117,8 +117,8 @@ gap_room [] start size top place a h =
     cond_both (leb (start + size) top) (Some start) None (λ o. o ≡ Some place → (start + size) + 0 ≤ top) (λ e g. omega (arith, leb-true (start + size) top e)) (λ e g. absurd (cc)) h
 gap_room (b ∷ bs) start size top place a h =
     cond_both (leb (start + size) b.place) (Some start) (gap_from (end_of b) size top bs) (λ o. o ≡ Some place → (start + size) + (b.size + size_of_cache bs) ≤ top)
-      (λ e g. omega (arith, leb-true (start + size) b.place e, filled bs (end_of b) top a.1))
-      (λ e g. omega (arith, a.0, gap_room bs (end_of b) size top place a.1 g)) h
+    (λ e g. omega (arith, leb-true (start + size) b.place e, filled bs (end_of b) top a.1))
+    (λ e g. omega (arith, a.0, gap_room bs (end_of b) size top place a.1 g)) h
 
 -- so where they leave less, there is none
 pub gap_crowded : (blocks : List CacheBlock) (start size top : ℕ) → AreBetween start top blocks → top < (start + size) + size_of_cache blocks → gap_from start size top blocks ≡ None

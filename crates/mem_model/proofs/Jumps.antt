@@ -6,7 +6,8 @@ use Rattle.mem_model.specs.Blocks.{CacheBlock}
 use Rattle.mem_model.specs.Memory.{Cache, cache_of}
 use Rattle.mem_model.specs.Places.{end_of, hop}
 use Rattle.mem_model.specs.Cache.{put_in, without, without_user, without_block, moved, hopped, hopped_to, lowest_below, turned, up_in, pushed_up}
-use Rattle.mem_model.specs.Gaps.{start_of, gap_from, height}
+use Rattle.mem_model.specs.Gaps.{start_of, gap_from}
+use Rattle.mem_model.specs.Turns.{height}
 use Rattle.mem_model.specs.Laid.{AreBetween, IsCache, count_in, users_of}
 use Rattle.mem_model.proofs.CacheBlocks.{between-spans}
 use Rattle.mem_model.proofs.CacheMoves.{has_sizes, rising, later-hopped}
@@ -44,15 +45,15 @@ up_in-enough (suc n) (suc m) [] recency bottom top h r p q = up_done (suc n) bot
 up_in-enough (suc n) (suc m) (b ∷ bs) recency bottom top h r p q =
     elim (cases_lt b.place bottom) [
       | inl below ↦ (
-        let low : lowest_below bottom (b ∷ bs) ≡ Some b = rw (lt-ltb b.place bottom below) refl in
-        let turn = hopped_turn b bs recency top r (omega (arith, below)) in
-        let next = hopped top (cache_of (b ∷ bs) recency) b in
-        up_one n bottom top (cache_of (b ∷ bs) recency) b low
-        ∙ up_in-enough n m next.blocks next.recency bottom top h turn.rising (omega (arith, turn.lower)) (omega (arith, turn.lower))
-        ∙ sym (up_one m bottom top (cache_of (b ∷ bs) recency) b low))
+          let low : lowest_below bottom (b ∷ bs) ≡ Some b = rw (lt-ltb b.place bottom below) refl in
+          let turn = hopped_turn b bs recency top r (omega (arith, below)) in
+          let next = hopped top (cache_of (b ∷ bs) recency) b in
+          up_one n bottom top (cache_of (b ∷ bs) recency) b low
+          ∙ up_in-enough n m next.blocks next.recency bottom top h turn.rising (omega (arith, turn.lower)) (omega (arith, turn.lower))
+          ∙ sym (up_one m bottom top (cache_of (b ∷ bs) recency) b low))
       | inr above ↦ (
-        let none : lowest_below bottom (b ∷ bs) ≡ None = rw (le-ltb b.place bottom above) refl in
-        up_done (suc n) bottom top (cache_of (b ∷ bs) recency) none ∙ sym (up_done (suc m) bottom top (cache_of (b ∷ bs) recency) none))
+          let none : lowest_below bottom (b ∷ bs) ≡ None = rw (le-ltb b.place bottom above) refl in
+          up_done (suc n) bottom top (cache_of (b ∷ bs) recency) none ∙ sym (up_done (suc m) bottom top (cache_of (b ∷ bs) recency) none))
     ]
 
 -- A push up with a block below the bottom is its hop, and a push up.

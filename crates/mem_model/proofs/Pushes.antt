@@ -7,7 +7,7 @@ use Rattle.std.proofs.lemmas.Bool.Decides.{eqb_tells}
 use Rattle.mem_model.specs.Blocks.{CacheBlock}
 use Rattle.mem_model.specs.Memory.{Cache, cache_of}
 use Rattle.mem_model.specs.Places.{least, lesser, end_of, hop, is_clear, has_above}
-use Rattle.mem_model.specs.Gaps.{height, depth}
+use Rattle.mem_model.specs.Turns.{height, depth}
 use Rattle.mem_model.specs.Cache.{up_in, down_in, turned, hopped, hopped_to, highest_above, pushed_up, pushed_down, put_in, without_block}
 
 -- the blocks have sizes, and start in rising order from `low` on

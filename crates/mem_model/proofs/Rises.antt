@@ -7,7 +7,8 @@ use Rattle.mem_model.specs.Blocks.{CacheBlock}
 use Rattle.mem_model.specs.Memory.{Cache, cache_of}
 use Rattle.mem_model.specs.Places.{end_of, is_clear}
 use Rattle.mem_model.specs.Cache.{put_in, without, without_user, without_block, moved, hopped_to, pushed_up, lowest_below}
-use Rattle.mem_model.specs.Gaps.{start_of, gap_from, size_of_cache, IsGap, IsHop, IsMove, IsRise, HasSize, height}
+use Rattle.mem_model.specs.Gaps.{start_of, gap_from, size_of_cache, IsGap, HasSize}
+use Rattle.mem_model.specs.Turns.{IsHop, IsMove, IsRise, height}
 use Rattle.mem_model.specs.Laid.{AreBetween, IsCache, count_in, users_of}
 use Rattle.mem_model.proofs.CacheBlocks.{between-spans, between_from, between-put_in}
 use Rattle.mem_model.proofs.CacheMoves.{has_sizes}

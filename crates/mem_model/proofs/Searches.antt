@@ -43,10 +43,11 @@ searched_here {blocks} {start} {size} {top} {at} {place} c s inside is fits =
       ends = omega (arith, (searched_bounds c s inside is).1);
       puts = λ b h. s.puts b (omega arith) ∙ ap (λ xs. take at blocks ++ xs) (ap (λ rest. put_in rest b) left ∙ before b h fits ∙ ap (λ rest. b ∷ rest) (sym left));
     } where
-  first : place + size ≤ c.place → gap_from place size top (c ∷ drop (at + 1) blocks) ≡ Some place
-  first h = rw (le-leb (place + size) c.place h) refl
-  before : (b : CacheBlock) → b.place ≡ place → place + size ≤ c.place → put_in (c ∷ drop (at + 1) blocks) b ≡ b ∷ c ∷ drop (at + 1) blocks
-  before b e h = rw (le-ltb c.place b.place (omega arith)) refl
+      first : place + size ≤ c.place → gap_from place size top (c ∷ drop (at + 1) blocks) ≡ Some place
+      first h = rw (le-leb (place + size) c.place h) refl
+
+      before : (b : CacheBlock) → b.place ≡ place → place + size ≤ c.place → put_in (c ∷ drop (at + 1) blocks) b ≡ b ∷ c ∷ drop (at + 1) blocks
+      before b e h = rw (le-ltb c.place b.place (omega arith)) refl
 
 -- The search goes on behind the next block.
 pub searched_more : {blocks : List CacheBlock} {start size top at place : ℕ} (c : CacheBlock) → IsSearched blocks start size top at place → at < length blocks → c ≡ get_or blocks at c → c.place < place + size → IsSearched blocks start size top (at + 1) (end_of c)
@@ -58,13 +59,13 @@ searched_more {blocks} {start} {size} {top} {at} {place} c s inside is short =
       inside = omega arith;
       gaps = s.gaps ∙ ap (gap_from place size top) left ∙ rw (lt-leb (place + size) c.place short) refl;
       puts = λ b h. s.puts b (omega (arith, a.0)) ∙ ap (λ xs. take at blocks ++ xs) (ap (λ rest. put_in rest b) left ∙ behind b (omega (arith, z.0)))
-        ∙ sym (append_assoc (take at blocks) (c ∷ []) (put_in (drop (at + 1) blocks) b))
-        ∙ ap (λ front. front ++ put_in (drop (at + 1) blocks) b) (sym (take_more blocks at c inside ∙ ap (λ x. take at blocks ++ x ∷ []) (sym is)));
+          ∙ sym (append_assoc (take at blocks) (c ∷ []) (put_in (drop (at + 1) blocks) b))
+          ∙ ap (λ front. front ++ put_in (drop (at + 1) blocks) b) (sym (take_more blocks at c inside ∙ ap (λ x. take at blocks ++ x ∷ []) (sym is)));
       between = a.1;
       sized = z.1;
     } where
-  behind : (b : CacheBlock) → c.place < b.place → put_in (c ∷ drop (at + 1) blocks) b ≡ c ∷ put_in (drop (at + 1) blocks) b
-  behind b h = rw (lt-ltb c.place b.place h) refl
+      behind : (b : CacheBlock) → c.place < b.place → put_in (c ∷ drop (at + 1) blocks) b ≡ c ∷ put_in (drop (at + 1) blocks) b
+      behind b h = rw (lt-ltb c.place b.place h) refl
 
 -- A gap behind the last block, or none.
 pub searched_last : {blocks : List CacheBlock} {start size top at place : ℕ} → IsSearched blocks start size top at place → length blocks ≤ at → place + size ≤ top → IsGap blocks start size top (length blocks) place
@@ -75,7 +76,7 @@ searched_last {blocks} {start} {size} {top} {at} {place} s end fits =
       inside = omega arith;
       ends = fits;
       puts = λ b h. s.puts b (omega arith) ∙ ap (λ rest. take at blocks ++ put_in rest b) none ∙ ap (λ front. front ++ b ∷ []) (take_all at blocks end ∙ sym (take_all (length blocks) blocks (omega arith)))
-        ∙ ap (λ rest. take (length blocks) blocks ++ b ∷ rest) (sym (drop_all (length blocks) blocks (omega arith)));
+          ∙ ap (λ rest. take (length blocks) blocks ++ b ∷ rest) (sym (drop_all (length blocks) blocks (omega arith)));
     }
 
 pub searched_none : {blocks : List CacheBlock} {start size top at place : ℕ} → IsSearched blocks start size top at place → length blocks ≤ at → top < place + size → gap_from start size top blocks ≡ None

@@ -5,7 +5,7 @@ use Rattle.std.proofs.lemmas.Bool.Decides.{eqb_tells}
 use Rattle.std.proofs.lemmas.List.{drop_more, take_more_set, drop-set-lt, take-append-drop, drop_all, take_all, append-nil}
 use Rattle.mem_model.specs.Cache.{without_user}
 use Rattle.mem_model.specs.Laid.{count_in}
-use Rattle.mem_model.specs.Gaps.{shifted}
+use Rattle.mem_model.specs.Turns.{shifted}
 
 -- what has been shifted, and what is left
 pub IsShifting : List ℕ → ℕ → ℕ → List ℕ → ℕ → Type 0

@@ -10,6 +10,7 @@ pub mod Operations
 pub mod Apart
 pub mod Laid
 pub mod Gaps
+pub mod Turns
 pub mod Keeps
 pub mod Rows
 pub mod Told

@@ -9,7 +9,8 @@ ghost use Rattle.mem_model.specs.Rows.{cache_row};
 ghost use Rattle.mem_model.specs.Told.{row_answer};
 ghost use Rattle.mem_model.specs.Laid.{AreBetween, IsCache, IsMultiple, IsText};
 ghost use Rattle.mem_model.specs.Memory.{cache_of};
-ghost use Rattle.mem_model.specs.Gaps.{gap_from, IsGap, HasSize, IsMove, IsRise, IsFall, IsAround, IsEvicted, IsRoom, shifted, start_of, size_of_cache, edge};
+ghost use Rattle.mem_model.specs.Gaps.{gap_from, IsGap, HasSize, start_of, size_of_cache};
+ghost use Rattle.mem_model.specs.Turns.{IsMove, IsRise, IsFall, IsAround, IsEvicted, IsRoom, shifted, edge};
 
 use crate::answers::BlockRow;
 use crate::cells::{CacheCell, insert_reserved};
@@ -41,7 +42,10 @@ fn first_gap(cells: &[CacheCell], start: u32, size: u32, top: u32) -> Option<Gap
         place = cell.end();
     }
     if place + size <= top {
-        Some(Gap { at: cells.len(), place })
+        Some(Gap {
+            at: cells.len(),
+            place,
+        })
     } else {
         None
     }
@@ -292,8 +296,8 @@ impl PlainCache {
         requires bounds { (bottom ≤ top) × (top ≤ 2 ^ 26) }
         ensures { (b : CacheBlock) (bs : List CacheBlock) → self.now.blocks ≡ b ∷ bs →
             MatchOption result (IsRise bottom top self.now (without self.now b.user))
-                (λ gap. IsMove self.now.blocks b gap.at gap.place
-                    × IsRise bottom top self.now (moved self.now b gap.place)) }
+            (λ gap. IsMove self.now.blocks b gap.at gap.place
+            × IsRise bottom top self.now (moved self.now b gap.place)) }
     {
         let (first, rest) = self.cells.split_first()?;
         let start = first.place();
@@ -341,7 +345,7 @@ impl PlainCache {
         requires small { top ≤ 2 ^ 26 }
         ensures { (b : CacheBlock) → highest_above top self.now.blocks ≡ Some b →
             MatchOption result (IsFall top self.now (without self.now b.user))
-                (λ gap. IsMove self.now.blocks b gap.at gap.place × IsFall top self.now (moved self.now b gap.place)) }
+            (λ gap. IsMove self.now.blocks b gap.at gap.place × IsFall top self.now (moved self.now b gap.place)) }
     {
         let (last, front) = self.cells.split_last()?;
         let (first, middle) = front.split_first()?;
@@ -349,7 +353,10 @@ impl PlainCache {
             return None;
         }
         let gap = first_gap(middle, first.end(), last.size(), last.place())?;
-        Some(Gap { at: gap.at + 1, place: gap.place })
+        Some(Gap {
+            at: gap.at + 1,
+            place: gap.place,
+        })
     }
 
     // The position of the highest block.
@@ -401,7 +408,14 @@ impl PlainCache {
         let mut cell = CacheCell::zeroed(alloc, size, user, name)?;
         self.cells.reserve(1)?;
         self.recency.reserve(1)?;
-        let gap = make_room(&mut self.cells, &mut self.recency, &mut self.used, bottom, size, top);
+        let gap = make_room(
+            &mut self.cells,
+            &mut self.recency,
+            &mut self.used,
+            bottom,
+            size,
+            top,
+        );
         cell.set_place(gap.place);
         insert_reserved(&mut self.cells, gap.at, cell);
         insert_reserved(&mut self.recency, 0, user);

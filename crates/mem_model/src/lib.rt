@@ -12,6 +12,8 @@ mod store;
 mod tests;
 mod zone;
 
-pub use answers::{BadMark, BlockRow, CacheError, FreeError, Place, RoomError, StoreStart, ZoneError};
+pub use answers::{
+    BadMark, BlockRow, CacheError, FreeError, Place, RoomError, StoreStart, ZoneError,
+};
 pub use plain::PlainStore;
 pub use store::Store;

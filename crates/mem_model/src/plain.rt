@@ -10,7 +10,9 @@ ghost use Rattle.mem_model.specs.Places.{hunk_need, zone_need, cache_need};
 ghost use Rattle.mem_model.specs.Plain.{IsAt, IsCut, IsHighCut, IsLast};
 ghost use Rattle.mem_model.specs.Laid.{Laid, IsMultiple, IsText};
 
-use crate::answers::{BadMark, BlockRow, CacheError, FreeError, Place, RoomError, StoreStart, ZoneError};
+use crate::answers::{
+    BadMark, BlockRow, CacheError, FreeError, Place, RoomError, StoreStart, ZoneError,
+};
 use crate::cache::PlainCache;
 use crate::cells::{HunkCell, add};
 use crate::store::Store;
@@ -364,7 +366,8 @@ impl Store for PlainStore {
             return Err(CacheError::NoRoom { asked, room });
         }
         let top = self.size - self.high_used;
-        self.cache.add(self.alloc, self.low_used, top, user, asked as u32, name)?;
+        self.cache
+            .add(self.alloc, self.low_used, top, user, asked as u32, name)?;
         Ok(())
     }
 

@@ -3,7 +3,8 @@
 ghost use Rattle.std.specs.Prelude.{◌≡◌, ◌≤◌, ◌^◌, length, true, IfOk};
 
 use crate::{
-    BadMark, BlockRow, CacheError, FreeError, Place, PlainStore, RoomError, Store, StoreStart, ZoneError,
+    BadMark, BlockRow, CacheError, FreeError, Place, PlainStore, RoomError, Store, StoreStart,
+    ZoneError,
 };
 use std::test::Fail;
 
@@ -284,7 +285,12 @@ fn blocks_of_the_cache_hop_up(rt: HostRuntime) -> Result<(), Fail> {
     assert_eq!(rt;
         shown(&store),
         (
-            [Some((49_168, 0)), Some((49_264, 1)), Some((49_520, 2)), None],
+            [
+                Some((49_168, 0)),
+                Some((49_264, 1)),
+                Some((49_520, 2)),
+                None
+            ],
             [Some(2), Some(1), Some(0), None]
         )
     );
@@ -315,7 +321,12 @@ fn blocks_of_the_cache_hop_down(rt: HostRuntime) -> Result<(), Fail> {
     assert_eq!(rt;
         shown(&store),
         (
-            [Some((49_168, 0)), Some((49_264, 3)), Some((49_520, 2)), None],
+            [
+                Some((49_168, 0)),
+                Some((49_264, 3)),
+                Some((49_520, 2)),
+                None
+            ],
             [Some(3), Some(0), Some(2), None]
         )
     );
@@ -334,7 +345,10 @@ fn a_block_without_a_gap_leaves(rt: HostRuntime) -> Result<(), Fail> {
     assert_eq!(rt; store.high_alloc(16_208, b"video"), Ok(Place(49_328)));
     assert_eq!(rt;
         shown(&store),
-        ([Some((49_168, 0)), None, None, None], [Some(0), None, None, None])
+        (
+            [Some((49_168, 0)), None, None, None],
+            [Some(0), None, None, None]
+        )
     );
     Ok(())
 }
@@ -362,7 +376,12 @@ fn the_cache_refuses_and_evicts(rt: HostRuntime) -> Result<(), Fail> {
     assert_eq!(rt;
         shown(&store),
         (
-            [Some((49_168, 0)), Some((49_264, 3)), Some((57_312, 2)), None],
+            [
+                Some((49_168, 0)),
+                Some((49_264, 3)),
+                Some((57_312, 2)),
+                None
+            ],
             [Some(3), Some(0), Some(2), None]
         )
     );

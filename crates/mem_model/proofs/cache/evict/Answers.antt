@@ -4,7 +4,8 @@ use Rattle.std.specs.List.{remove}
 use Rattle.std.proofs.lemmas.Option.{slice_get_read}
 use Rattle.mem_model.specs.Blocks.{CacheBlock}
 use Rattle.mem_model.specs.Memory.{Cache, cache_of}
-use Rattle.mem_model.specs.Gaps.{IsAround, IsEvicted, size_of_cache}
+use Rattle.mem_model.specs.Gaps.{size_of_cache}
+use Rattle.mem_model.specs.Turns.{IsAround, IsEvicted}
 use Rattle.mem_model.specs.Laid.{AreBetween}
 use Rattle.mem_model.proofs.Evicting.{IsGone, gone, nobody_left, evicted_block, position_some, position_none}
 use Rattle.mem_model.proofs.cache.evict.Goals as goal
@@ -16,7 +17,7 @@ unreachable-requires c = nobody_left (cache_of c.args.cells.now.items c.args.rec
 pub unreachable-requires-in_default-position_of : goal.unreachable-requires-in_default-position_of
 unreachable-requires-in_default-position_of c =
     evicted_block (cache_of c.args.cells.now.items c.args.recency.now.items) c.args.bottom c.args.top c.in-Some.user c.pop.new.self.items c.requires.order c.in-Some.ensures.items
-      (position_none c.in-Some.user c.args.cells.now.items (ap (position (λ b. nat_eq b.user c.in-Some.user)) (sym c.deref.ensures.value) ∙ sym c.in_default-position_of.ensures))
+    (position_none c.in-Some.user c.args.cells.now.items (ap (position (λ b. nat_eq b.user c.in-Some.user)) (sym c.deref.ensures.value) ∙ sym c.in_default-position_of.ensures))
 
 place : (c : After-size) → position (λ b. nat_eq b.user c.in-Some.user) c.args.cells.now.items ≡ Some c.in-Some-position_of.at
 place c = ap (position (λ b. nat_eq b.user c.in-Some.user)) (sym c.deref.ensures.value) ∙ sym c.in-Some-position_of.ensures

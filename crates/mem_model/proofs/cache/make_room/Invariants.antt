@@ -1,7 +1,8 @@
 use Rattle.std.proofs.Common.{◌≡◌, ◌<◌, ◌≤◌, None, length}
 use Rattle.std.specs.Prelude.{MatchOption, vec_len, vec_capacity}
 use Rattle.mem_model.specs.Memory.{cache_of}
-use Rattle.mem_model.specs.Gaps.{gap_from, size_of_cache, IsGap, IsRoom}
+use Rattle.mem_model.specs.Gaps.{gap_from, size_of_cache, IsGap}
+use Rattle.mem_model.specs.Turns.{IsRoom}
 use Rattle.mem_model.proofs.cache.make_room.Given as goal
 
 abbrev pub invariant-loop-gap : goal.invariant-loop-gap

@@ -4,7 +4,8 @@ use Rattle.std.specs.List.{insert}
 use Rattle.mem_model.specs.Blocks.{CacheBlock}
 use Rattle.mem_model.specs.Memory.{Cache, cache_of}
 use Rattle.mem_model.specs.Cache.{with_new, new_block, block_of}
-use Rattle.mem_model.specs.Gaps.{IsRoom, size_of_cache}
+use Rattle.mem_model.specs.Gaps.{size_of_cache}
+use Rattle.mem_model.specs.Turns.{IsRoom}
 use Rattle.mem_model.specs.Laid.{IsCache, count_in, users_of}
 use Rattle.mem_model.specs.CacheState.{cache_in}
 use Rattle.mem_model.proofs.CacheBlocks.{find-none}
@@ -26,7 +27,7 @@ grown c =
     let none = r.absent c.args.user (find-none c.args.user c.args.self.now.blocks c.requires.free) in
     rw (c.insert_reserved.ensures, c.insert_reserved-2.ensures, c.set_place.ensures, c.in_ok-cell.ensures)
     (added (cache_of c.make_room-gap.new.cells.items c.make_room-gap.new.recency.items) c.args.bottom c.args.top c.args.size c.args.user c.make_room-gap.result.at c.make_room-gap.result.place c.args.name.now
-      r.order c.requires.small c.make_room-gap.ensures.gap (block_is (2 ^ 32) c.args.size c.args.user c.make_room-gap.result.place c.args.name.now c.requires.size.0 c.requires.size.1 (omega (arith, c.ranges.user.fits)) c.requires.name) none)
+    r.order c.requires.small c.make_room-gap.ensures.gap (block_is (2 ^ 32) c.args.size c.args.user c.make_room-gap.result.place c.args.name.now c.requires.size.0 c.requires.size.1 (omega (arith, c.ranges.user.fits)) c.requires.name) none)
 
 pub overflow_add-self : goal.overflow_add-self
 overflow_add-self c =

@@ -5,7 +5,8 @@ use Rattle.mem_model.specs.Blocks.{CacheBlock}
 use Rattle.mem_model.specs.Memory.{Cache, cache_of}
 use Rattle.mem_model.specs.Places.{end_of}
 use Rattle.mem_model.specs.Cache.{moved, without, highest_above}
-use Rattle.mem_model.specs.Gaps.{IsMove, IsFall, IsGap, gap_from, size_of_cache}
+use Rattle.mem_model.specs.Gaps.{IsGap, gap_from, size_of_cache}
+use Rattle.mem_model.specs.Turns.{IsMove, IsFall}
 use Rattle.mem_model.specs.Laid.{IsCache, AreBetween}
 use Rattle.mem_model.specs.CacheState.{cache_in}
 use Rattle.mem_model.proofs.Gaps.{filled}

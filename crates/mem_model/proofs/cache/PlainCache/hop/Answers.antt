@@ -5,7 +5,8 @@ use Rattle.std.proofs.lemmas.Option.{slice_get_read, get_or_from_slice_get}
 use Rattle.mem_model.specs.Blocks.{CacheBlock}
 use Rattle.mem_model.specs.Memory.{Cache}
 use Rattle.mem_model.specs.Cache.{moved}
-use Rattle.mem_model.specs.Gaps.{shifted, IsMove, size_of_cache}
+use Rattle.mem_model.specs.Gaps.{size_of_cache}
+use Rattle.mem_model.specs.Turns.{shifted, IsMove}
 use Rattle.mem_model.specs.Laid.{IsCache}
 use Rattle.mem_model.specs.CacheState.{cache_in}
 use Rattle.mem_model.proofs.CacheEdits.{IsMoving, moving, written_whole}

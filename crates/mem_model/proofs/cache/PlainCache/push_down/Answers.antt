@@ -3,7 +3,7 @@ use Rattle.std.specs.Prelude.{slice_get, is_some}
 use Rattle.mem_model.specs.Blocks.{CacheBlock}
 use Rattle.mem_model.specs.Memory.{Cache}
 use Rattle.mem_model.specs.Cache.{highest_above}
-use Rattle.mem_model.specs.Gaps.{IsFall, IsMove}
+use Rattle.mem_model.specs.Turns.{IsFall, IsMove}
 use Rattle.mem_model.proofs.Falls.{pushed_down-done, none_above, some_highest, at_last}
 use Rattle.mem_model.proofs.cache.PlainCache.push_down.Goals as goal
 

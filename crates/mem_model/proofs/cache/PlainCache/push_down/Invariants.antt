@@ -1,6 +1,6 @@
 use Rattle.std.proofs.Common.{◌≡◌, ◌≤◌, ℕ}
 use Rattle.mem_model.specs.Cache.{pushed_down}
-use Rattle.mem_model.specs.Gaps.{depth}
+use Rattle.mem_model.specs.Turns.{depth}
 use Rattle.mem_model.specs.Laid.{AreBetween}
 use Rattle.mem_model.proofs.cache.PlainCache.push_down.Given as goal
 

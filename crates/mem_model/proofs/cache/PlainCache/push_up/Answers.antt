@@ -3,7 +3,7 @@ use Rattle.std.specs.Prelude.{slice_get, is_some}
 use Rattle.mem_model.specs.Blocks.{CacheBlock}
 use Rattle.mem_model.specs.Memory.{Cache}
 use Rattle.mem_model.specs.Cache.{lowest_below}
-use Rattle.mem_model.specs.Gaps.{IsRise}
+use Rattle.mem_model.specs.Turns.{IsRise}
 use Rattle.mem_model.proofs.Jumps.{pushed_up-done}
 use Rattle.mem_model.proofs.Rises.{at_front, first_below, none_below}
 use Rattle.mem_model.proofs.cache.PlainCache.push_up.Goals as goal

@@ -1,6 +1,6 @@
 use Rattle.std.proofs.Common.{◌≡◌, ℕ}
 use Rattle.mem_model.specs.Cache.{pushed_up}
-use Rattle.mem_model.specs.Gaps.{height}
+use Rattle.mem_model.specs.Turns.{height}
 use Rattle.mem_model.specs.Laid.{AreBetween}
 use Rattle.mem_model.proofs.cache.PlainCache.push_up.Given as goal
 

@@ -4,7 +4,8 @@ use Rattle.std.specs.List.{AllByRecursion}
 use Rattle.mem_model.specs.Blocks.{CacheBlock}
 use Rattle.mem_model.specs.Memory.{Cache, cache_of}
 use Rattle.mem_model.specs.Cache.{moved, without, lowest_below}
-use Rattle.mem_model.specs.Gaps.{IsMove, IsRise, IsGap, start_of, gap_from, size_of_cache}
+use Rattle.mem_model.specs.Gaps.{IsGap, start_of, gap_from, size_of_cache}
+use Rattle.mem_model.specs.Turns.{IsMove, IsRise}
 use Rattle.mem_model.specs.Laid.{IsCache, AreBetween}
 use Rattle.mem_model.specs.CacheState.{cache_in}
 use Rattle.mem_model.proofs.Gaps.{filled}
@@ -56,7 +57,7 @@ returns-then-place-size c =
     let fits : d.in_ok-first.first.now.place + suc (suc (times d)) * d.in_ok-first.first.now.size ≤ start_of d.args.top d.in_ok-first.rest.now = omega (arith, place d, c.if-place-size.true, c.size-size.ensures, c.start_of-limit.ensures) in
     let turn = rise_inside (low d) (times d) (below d) fits in
     rw (place d) (named d (λ m x. IsMove m.blocks x 0 (d.in_ok-first.first.now.place + suc (times d) * d.in_ok-first.first.now.size) × IsRise d.args.bottom d.args.top m (moved m x (d.in_ok-first.first.now.place + suc (times d) * d.in_ok-first.first.now.size)))
-      (turn.move, turn.rise))
+    (turn.move, turn.rise))
 
 pub overflow_add-limit : goal.overflow_add-limit
 overflow_add-limit c = omega (arith, (low_start (low (goal.at.overflow_add-limit c).After-start_of-limit)).1, c.requires.bounds, c.start_of-limit.ensures, c.self.invariant.used, filled c.self.inside.cells.items 0 (2 ^ 26) c.self.invariant.order.between)
@@ -78,7 +79,7 @@ pub returns : goal.returns
 returns c =
     let d = (goal.at.returns c).After-start_of-limit in
     named d (λ m x. MatchOption c.first_gap.result (IsRise d.args.bottom d.args.top m (without m x.user)) (λ gap. IsMove m.blocks x gap.at gap.place × IsRise d.args.bottom d.args.top m (moved m x gap.place)))
-      (match_map c.first_gap.result
-        (λ none. rise_none (low d) (times d) (below d) (short d c.if-place-size.false) (rw (c.start_of-limit.ensures, c.size-size.ensures) at none))
-        (λ gap found. (let turn = rise_later (low d) (times d) gap.at gap.place (below d) (short d c.if-place-size.false) (rw (c.start_of-limit.ensures, c.size-size.ensures) at found) in (turn.move, turn.rise)))
-        c.first_gap.ensures)
+    (match_map c.first_gap.result
+    (λ none. rise_none (low d) (times d) (below d) (short d c.if-place-size.false) (rw (c.start_of-limit.ensures, c.size-size.ensures) at none))
+    (λ gap found. (let turn = rise_later (low d) (times d) gap.at gap.place (below d) (short d c.if-place-size.false) (rw (c.start_of-limit.ensures, c.size-size.ensures) at found) in (turn.move, turn.rise)))
+    c.first_gap.ensures)

@@ -19,8 +19,8 @@ now c =
     let order = c.self.invariant.order in
     let once : count_in c.args.user s.recency.items ≡ 1 = omega (arith, some_counted c.args.user s.cells.items (has c), order.one_each c.args.user, order.recency c.args.user) in
     ap (cache_of s.cells.items)
-      (sym (written_whole c.touch.new.recency s.recency.items s.recency.len (c.touch.auto.recency ∙ ap length c.deref_mut.ensures.value) s.recency.ok.0
-      ∙ c.touch.ensures ∙ rw c.deref_mut.ensures.value (shifted_is c.args.user c.args.user s.recency.items once)))
+    (sym (written_whole c.touch.new.recency s.recency.items s.recency.len (c.touch.auto.recency ∙ ap length c.deref_mut.ensures.value) s.recency.ok.0
+    ∙ c.touch.ensures ∙ rw c.deref_mut.ensures.value (shifted_is c.args.user c.args.user s.recency.items once)))
 
 pub invariant_of-self : goal.invariant_of-self
 invariant_of-self c = record {

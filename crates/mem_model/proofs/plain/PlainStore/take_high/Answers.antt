@@ -29,7 +29,7 @@ starts c = omega (arith, c.self.invariant.high_used)
 pushed : (c : goal.After-push_down) → c.push_down.new.self ≡ pushed_down c.self.inside.cache c.self.inside.size (c.self.inside.size - (c.self.inside.high_used + hunk_need c.args.size))
 pushed c =
     let now : c.push_down.new.self ≡ pushed_down c.self.inside.cache c.self.inside.size (c.self.inside.size - (c.self.inside.high_used + c.hunk_need-asked.result)) =
-      c.push_down.ensures c.self.inside.size (between_from c.self.inside.cache.blocks 0 _ _ (omega arith) (between_to c.self.inside.cache.blocks _ _ c.self.inside.size (omega arith) c.self.invariant.laid.cache.between)) (omega arith) in
+    c.push_down.ensures c.self.inside.size (between_from c.self.inside.cache.blocks 0 _ _ (omega arith) (between_to c.self.inside.cache.blocks _ _ c.self.inside.size (omega arith) c.self.invariant.laid.cache.between)) (omega arith) in
     now ∙ ap (λ need. pushed_down c.self.inside.cache c.self.inside.size (c.self.inside.size - (c.self.inside.high_used + need))) c.hunk_need-asked.ensures
 
 pub invariant_of-self-2 : goal.invariant_of-self-2
@@ -38,7 +38,7 @@ invariant_of-self-2 c =
     record {
       laid = rw (pushed c, c.in_ok-add.ensures.ok, c.in_ok-cell.ensures, c.hunk_need-asked.ensures)
           (Laid-high_grown (state_of c.self.inside) (hunk_block (hunk_need c.args.size) c.args.name.now) (c.self.inside.size - (c.self.inside.high_used + hunk_need c.args.size)) c.self.invariant.laid
-            (IsHunkBlock-hunk_block c.args.size c.args.name.now c.requires.name) (fits c) none (starts c));
+          (IsHunkBlock-hunk_block c.args.size c.args.name.now c.requires.name) (fits c) none (starts c));
       low_used = c.self.invariant.low_used;
       high_used = rw (c.in_ok-add.ensures.ok, c.in_ok-cell.ensures, c.hunk_need-asked.ensures)
           (omega (arith, size_of-append c.self.inside.high.items (hunk_block (hunk_need c.args.size) c.args.name.now ∷ []), c.self.invariant.high_used));

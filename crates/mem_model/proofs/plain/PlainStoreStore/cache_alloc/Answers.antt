@@ -28,7 +28,7 @@ taken : (c : goal.In_ok-add) → Answers (cache_alloc (state_of c.self.inside) c
 taken c =
     let left : c.from-room.result ≡ room (state_of c.self.inside) = c.from-room.ensures ∙ c.room.ensures.room ∙ ap room (sym c.self.view_is) in
     let given = cache_alloc_taken (state_of c.self.inside) c.args.user c.args.size (c.self.inside.size - c.self.inside.high_used) c.args.name.now refl (sym c.if-has.ensures) c.if-size-eq0.false
-      (omega (arith, left, c.if-asked-room.false, c.cache_need-asked.ensures)) (ap (λ n. c.self.inside.size - n) c.self.invariant.high_used) in
+    (omega (arith, left, c.if-asked-room.false, c.cache_need-asked.ensures)) (ap (λ n. c.self.inside.size - n) c.self.invariant.high_used) in
     rw (c.in_ok-add.ensures.ok, c.cache_need-asked.ensures, c.self.invariant.low_used) given
 
 pub invariant_of-self-2 : goal.invariant_of-self-2

@@ -26,7 +26,7 @@ pub invariant_of-self-2 : goal.invariant_of-self-2
 invariant_of-self-2 c = record {
   laid = rw (c.push_up.ensures, c.in_ok-add.ensures.ok, c.in_ok-cell.ensures, c.hunk_need-need.ensures)
       (Laid-low_grown (state_of c.self.inside) (hunk_block (hunk_need c.args.size) c.args.name.now) (c.self.inside.low_used + hunk_need c.args.size) (c.self.inside.size - c.self.inside.high_used) c.self.invariant.laid
-        (IsHunkBlock-hunk_block c.args.size c.args.name.now c.requires.name) (fits c) (ap (λ n. n + hunk_need c.args.size) c.self.invariant.low_used) (ap (λ n. c.self.inside.size - n) c.self.invariant.high_used));
+      (IsHunkBlock-hunk_block c.args.size c.args.name.now c.requires.name) (fits c) (ap (λ n. n + hunk_need c.args.size) c.self.invariant.low_used) (ap (λ n. c.self.inside.size - n) c.self.invariant.high_used));
   low_used = rw (c.in_ok-add.ensures.ok, c.in_ok-cell.ensures, c.hunk_need-need.ensures)
       (omega (arith, size_of-append c.self.inside.low.items (hunk_block (hunk_need c.args.size) c.args.name.now ∷ []), c.self.invariant.low_used));
   high_used = c.self.invariant.high_used;
@@ -38,7 +38,7 @@ invariant_of-self-2 c = record {
 pub returns-clause-gives : goal.returns-clause-gives
 returns-clause-gives c =
     let given = low_alloc_grown (state_of c.self.inside) c.args.size (c.self.inside.low_used + hunk_need c.args.size) (c.self.inside.size - c.self.inside.high_used) c.args.name.now refl (fits c)
-      (ap (λ n. n + hunk_need c.args.size) c.self.invariant.low_used) (ap (λ n. c.self.inside.size - n) c.self.invariant.high_used) in
+    (ap (λ n. n + hunk_need c.args.size) c.self.invariant.low_used) (ap (λ n. c.self.inside.size - n) c.self.invariant.high_used) in
     rw (c.push_up.ensures, c.in_ok-add.ensures.ok, c.in_ok-cell.ensures, c.hunk_need-need.ensures, ← c.self.view_is) (rw (← c.self.invariant.low_used) at given)
 
 pub push_up-requires-clause-between : goal.push_up-requires-clause-between
