@@ -1,5 +1,5 @@
 -- A block at a position leaves, or moves.
-use Rattle.std.proofs.Common.{◌≡◌, ℕ, suc, zero, ◌+◌, ◌-◌, ◌<◌, ◌≤◌, ◌^◌, true, false, cond, ltb, List, [], ◌∷◌, ◌++◌, Option, Some, None, find, length, take, drop, get_or, nat_eq, not, refl, sym, ap, subst, ◌∙◌, arith, inl, inr}
+use Rattle.std.proofs.Common.{◌≡◌, ℕ, suc, zero, ◌+◌, ◌<◌, ◌≤◌, ◌^◌, true, false, cond, ltb, List, [], ◌∷◌, ◌++◌, Some, find, length, take, drop, nat_eq, refl, sym, ap, ◌∙◌, arith, inl, inr}
 use Rattle.std.specs.Prelude.{slice_get}
 use Rattle.std.specs.List.{insert, remove}
 use Rattle.std.proofs.lemmas.Bool.{eq-eqb}
@@ -7,12 +7,11 @@ use Rattle.std.proofs.lemmas.Bool.Decides.{eqb_tells}
 use Rattle.std.proofs.lemmas.List.{drop_all, take_all, append-nil}
 use Rattle.mem_model.specs.Blocks.{CacheBlock}
 use Rattle.mem_model.specs.Memory.{Cache}
-use Rattle.mem_model.specs.Cache.{put_in, without, without_block, without_user, moved, block_of}
+use Rattle.mem_model.specs.Cache.{put_in, without, without_block, without_user, moved}
 use Rattle.mem_model.specs.Gaps.{size_of_cache}
 use Rattle.mem_model.specs.Turns.{IsMove, shifted}
 use Rattle.mem_model.specs.Laid.{IsCache, count_in, users_of}
-use Rattle.mem_model.proofs.CacheBlocks.{find-some}
-use Rattle.mem_model.proofs.CacheMoves.{IsLater, later-without, later-moved}
+use Rattle.mem_model.proofs.CacheMoves.{later-without, later-moved}
 use Rattle.mem_model.proofs.Jumps.{without_block-none}
 use Rattle.mem_model.proofs.Shifts.{shifted_is}
 

@@ -1,30 +1,29 @@
 -- What each operation leaves of the rest of a memory, and that it keeps a memory laid out, whatever the cache has.
-use Rattle.std.proofs.Common.{◌≡◌, ◌≢◌, ℕ, suc, zero, ◌+◌, ◌-◌, ◌*◌, ◌<◌, ◌≤◌, Bool, true, false, cond, List, [], ◌∷◌, ◌++◌, Option, Some, None, Result, Ok, Err, filter, find, length, nat_eq, not, leb, ltb, eqb, refl, sym, ap, subst, ◌∙◌, ◌⊎◌, inl, inr, arith, take, drop, if◌then◌else◌, is_ok, replicate, length-take, rules}
-use Rattle.std.specs.Prelude.{◌&&◌, is_some, codes, ◌^◌}
-use Rattle.std.specs.List.{AllByRecursion}
+use Rattle.std.proofs.Common.{◌≡◌, ◌≢◌, ℕ, suc, ◌+◌, ◌-◌, ◌<◌, ◌≤◌, Bool, true, false, List, [], ◌∷◌, ◌++◌, Option, Some, None, Result, Ok, Err, length, nat_eq, not, ltb, eqb, refl, sym, ap, subst, ◌∙◌, inl, inr, arith, take, if◌then◌else◌, is_ok, length-take, rules}
+use Rattle.std.specs.Prelude.{is_some, codes}
 use Rattle.std.specs.Option.{option_map}
 use Rattle.std.proofs.lemmas.List.{length-replicate}
 use Rattle.std.proofs.lemmas.List.Elements.{All-take}
-use Rattle.std.proofs.lemmas.Bool.{cond_both, ltb-true, ltb-false, eqb-false, eq-eqb, ne_eqb}
+use Rattle.std.proofs.lemmas.Bool.{cond_both, ltb-false, eqb-false, eq-eqb, ne_eqb}
 use Rattle.std.proofs.lemmas.Bool.Decides.{eqb_tells}
 use Rattle.mem_model.specs.Event.{Event, Shortage, FreeRefusal, CacheRefusal.Occupied, CacheRefusal.BadSize, CacheRefusal.NoRoom}
-use Rattle.mem_model.specs.Blocks.{HunkBlock, ZoneBlock, CacheBlock}
-use Rattle.mem_model.specs.Memory.{Memory, Cache, Zone, size_of, low_used, high_used, high_start, room}
+use Rattle.mem_model.specs.Blocks.{HunkBlock, CacheBlock}
+use Rattle.mem_model.specs.Memory.{Memory, Cache, size_of, low_used, high_used, high_start, room}
 use Rattle.mem_model.specs.Places.{hunk_need, cache_need, round_up}
 use Rattle.mem_model.specs.Hunk.{hunk_block, with_low, with_high, without_temp, temp_freed, cut_from, cut_above, low_bytes, bytes_above, temp_bytes, temp_bytes_of}
 use Rattle.mem_model.specs.Zone.{zone_bytes, used_bytes_from}
-use Rattle.mem_model.specs.Cache.{pushed_up, pushed_down, peek_bytes, without, touched, block_of, peek_place, with_new, new_block, without_user}
-use Rattle.mem_model.specs.Answer.{Answered, Gives, noted, with_event}
+use Rattle.mem_model.specs.Cache.{pushed_up, pushed_down, peek_bytes, without, touched, block_of, with_new, new_block, without_user}
+use Rattle.mem_model.specs.Answer.{Answered, Gives, with_event}
 use Rattle.mem_model.specs.Operations.{low_alloc, low_free, low_cut, high_taken, high_alloc, high_free, high_cut, high_mark, temp_alloc, z_alloc, z_free, cache_alloc, check, cache_free, flush, shortage}
-use Rattle.mem_model.specs.Laid.{Laid, IsText, IsMultiple, IsHunkBlock, IsTemp, IsCache, IsCacheBlock, count_in, users_of}
-use Rattle.mem_model.specs.Keeps.{held, unplaced, KeepsUsers, IsNot, beside_low, beside_high, beside_zone, beside_cache}
-use Rattle.mem_model.proofs.CacheBlocks.{find-none, find-absent, find-some, count-gone, count-stays}
-use Rattle.mem_model.proofs.CacheMoves.{Keeps, IsLater, keeps_all, keeps_more, later-pushed_up, later-pushed_down, later-without}
+use Rattle.mem_model.specs.Laid.{Laid, IsText, IsHunkBlock, IsCache, IsCacheBlock, count_in, users_of}
+use Rattle.mem_model.specs.Keeps.{held, unplaced, KeepsUsers, beside_low, beside_high, beside_zone, beside_cache}
+use Rattle.mem_model.proofs.CacheBlocks.{find-none, find-some, count-gone, count-stays}
+use Rattle.mem_model.proofs.CacheMoves.{Keeps, later-pushed_up, later-pushed_down, later-without}
 use Rattle.mem_model.proofs.CacheNew.{grown-with_new, IsGrown}
 use Rattle.mem_model.proofs.Laying.{size_of-append, all-append, low_blocks-append, first_size-append, IsHunkBlock-hunk_block, Laid-with_fewer}
-use Rattle.mem_model.proofs.HighLaying.{Laid-with_fewer_high, Laid-with_temp, without_temp_some, without_temp_none, temp-without_temp}
+use Rattle.mem_model.proofs.HighLaying.{Laid-with_fewer_high, Laid-with_temp, temp-without_temp}
 use Rattle.mem_model.proofs.Untouched.{left-with_event, left-either, left-z_alloc, left-z_free}
-use Rattle.mem_model.proofs.ZoneLaying.{Laid-with_event, Laid-z_alloc, Laid-z_free}
+use Rattle.mem_model.proofs.ZoneLaying.{Laid-with_event}
 
 -- KeepsUsers is a relation that goes from step to step.
 pub keeps_users_all : (new : Option ℕ) (m : Memory) → KeepsUsers new m m

@@ -1,20 +1,20 @@
 -- What the cache's moves leave: a cache in order, and what each user holds.
 use Rattle.std.proofs.Common.{◌≡◌, ◌≢◌, ℕ, suc, zero, ◌+◌, ◌-◌, ◌*◌, ◌<◌, ◌≤◌, Bool, true, false, cond, List, [], ◌∷◌, ◌++◌, Option, Some, None, filter, find, map, length, nat_eq, not, leb, ltb, eqb, refl, sym, ap, subst, ◌∙◌, ◌⊎◌, inl, inr, arith, take, drop}
-use Rattle.std.specs.Prelude.{◌&&◌, ◌||◌, is_some}
-use Rattle.std.specs.List.{AllByRecursion, list_any, range_with_len}
+use Rattle.std.specs.Prelude.{◌&&◌, ◌||◌}
+use Rattle.std.specs.List.{AllByRecursion, list_any}
 use Rattle.std.specs.Option.{option_map}
-use Rattle.std.proofs.lemmas.Bool.{eq-eqb, ne_eqb, ltb-false, ltb-true, leb-true, le-leb, and_parts, or_cases, not-true, not-false}
+use Rattle.std.proofs.lemmas.Bool.{eq-eqb, ne_eqb, ltb-false, leb-true, and_parts, or_cases, not-true, not-false}
 use Rattle.std.proofs.lemmas.Bool.Decides.{eqb_tells}
 use Rattle.std.proofs.lemmas.List.{take-append-drop}
 use Rattle.mem_model.specs.Blocks.{CacheBlock}
 use Rattle.mem_model.specs.Memory.{Cache}
-use Rattle.mem_model.specs.Places.{end_of, is_clear, has_above, least, lesser, hop, fit}
-use Rattle.mem_model.specs.Cache.{put_in, without, without_user, without_block, touched, block_of, moved, hopped_to, hopped, lowest_below, highest_above, turned, up_in, down_in, pushed_up, pushed_down, kept, with_block}
+use Rattle.mem_model.specs.Places.{end_of, is_clear, has_above, least, lesser, hop}
+use Rattle.mem_model.specs.Cache.{put_in, without, without_user, block_of, moved, hopped_to, hopped, lowest_below, highest_above, turned, up_in, down_in, pushed_up, pushed_down, kept, with_block}
 use Rattle.mem_model.specs.Laid.{AreBetween, IsCache, IsCacheBlock, count_in, users_of}
 use Rattle.mem_model.specs.Gaps.{HasSize}
 use Rattle.mem_model.specs.Turns.{IsHop}
 use Rattle.mem_model.specs.Keeps.{held, unplaced}
-use Rattle.mem_model.proofs.CacheBlocks.{find-stays, find-gone, find-put_other, find-put_own, find-none, find-some, find-absent, count-stays, count-gone, users_of-filter, count-put_in, count-append, all-filter, all-put_in, between_from, between_to, between-spans, between-filter, between-put_in, clear-filter, clear_below}
+use Rattle.mem_model.proofs.CacheBlocks.{find-stays, find-gone, find-put_other, find-put_own, find-some, count-stays, count-gone, users_of-filter, count-put_in, count-append, all-filter, all-put_in, between-spans, between-filter, between-put_in, clear-filter, clear_below}
 use Rattle.mem_model.proofs.Pushes.{passes-least, IsRising, StartsAbove, pushed_up-ends, pushed_down-ends}
 
 -- Each user holds what it held, or nothing.

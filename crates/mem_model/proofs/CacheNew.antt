@@ -1,5 +1,5 @@
 -- A new block of the cache: who leaves for it, and where it stands.
-use Rattle.std.proofs.Common.{◌≡◌, ◌≢◌, ℕ, suc, zero, ◌+◌, ◌-◌, ◌<◌, ◌≤◌, Bool, true, false, cond, List, [], ◌∷◌, ◌++◌, Option, Some, None, filter, find, map, length, nat_eq, not, leb, ltb, eqb, refl, sym, ap, ◌∙◌, ◌⊎◌, inl, inr, arith, take, drop}
+use Rattle.std.proofs.Common.{◌≡◌, ◌≢◌, ℕ, suc, zero, ◌+◌, ◌-◌, ◌<◌, ◌≤◌, Bool, true, false, List, [], ◌∷◌, Option, Some, None, filter, map, length, nat_eq, not, leb, refl, sym, ap, ◌∙◌, inl, inr, arith, drop}
 use Rattle.std.specs.Prelude.{◌&&◌, is_some}
 use Rattle.std.specs.List.{AllByRecursion, list_any, range_with_len}
 use Rattle.std.proofs.lemmas.Bool.{leb-true, le-leb, and_parts, cases_Bool}
@@ -9,9 +9,9 @@ use Rattle.mem_model.specs.Places.{end_of, is_clear, least, lesser, fit}
 use Rattle.mem_model.specs.Cache.{kept, with_block, with_new, evictions, new_block, placed, made_room}
 use Rattle.mem_model.specs.Laid.{AreBetween, IsCache, IsCacheBlock, count_in, users_of}
 use Rattle.mem_model.specs.Turns.{IsHop}
-use Rattle.mem_model.specs.Keeps.{held, unplaced}
+use Rattle.mem_model.specs.Keeps.{held}
 use Rattle.mem_model.proofs.CacheBlocks.{users_of-filter, count-stays, count-gone}
-use Rattle.mem_model.proofs.CacheMoves.{Keeps, IsLater, least_among, ends_above, later-kept, none-counted, cache-with_block, held-with_block, held-with_other}
+use Rattle.mem_model.proofs.CacheMoves.{least_among, ends_above, later-kept, none-counted, cache-with_block, held-with_block, held-with_other}
 use Rattle.mem_model.proofs.Pushes.{passes-least}
 
 -- The place of a fit is as good as that of a hop.

@@ -1,20 +1,19 @@
 -- The least recently used leave one by one, and after the first search only the gap around the one that left is looked at.
-use Rattle.std.proofs.Common.{◌≡◌, ◌≢◌, ℕ, suc, zero, ◌+◌, ◌-◌, ◌<◌, ◌≤◌, ◌^◌, min, Bool, true, false, cond, List, [], ◌∷◌, ◌++◌, Option, Some, None, filter, find, map, length, nat_eq, not, leb, ltb, eqb, refl, sym, ap, subst, ◌∙◌, arith, take, drop, inl, inr, length-append, add-one, length-take, append-nil, rules}
-use Rattle.std.specs.Prelude.{◌&&◌, ◌||◌, is_some, slice_get, position, IsSome}
+use Rattle.std.proofs.Common.{◌≡◌, ℕ, suc, zero, ◌+◌, ◌-◌, ◌<◌, ◌≤◌, ◌^◌, Bool, true, false, cond, List, [], ◌∷◌, ◌++◌, Option, Some, None, filter, find, length, nat_eq, not, leb, refl, sym, ap, subst, ◌∙◌, arith, take, drop, inl, inr, length-append, rules}
+use Rattle.std.specs.Prelude.{◌&&◌, ◌||◌, is_some, slice_get, IsSome}
 use Rattle.std.specs.Option.{option_map}
-use Rattle.std.specs.List.{AllByRecursion, list_any, range_with_len, insert, remove, position_or_len}
+use Rattle.std.specs.List.{AllByRecursion, list_any, range_with_len, insert, remove}
 use Rattle.std.proofs.lemmas.Bool.{le-leb, lt-leb, leb-true, leb-false, lt-ltb, le-ltb, ltb-true, ltb-false, cases_Bool, cond_both, eq-eqb, cases_lt}
-use Rattle.std.proofs.lemmas.List.{drop_all, take_all, take_at}
-use Rattle.std.proofs.lemmas.List.Folds.{find_at}
-use Rattle.std.proofs.lemmas.Option.{slice_get_past, slice_get_within}
+use Rattle.std.proofs.lemmas.List.{drop_all, take_all}
 use Rattle.mem_model.specs.Blocks.{CacheBlock}
 use Rattle.mem_model.specs.Memory.{Cache, cache_of}
 use Rattle.mem_model.specs.Places.{end_of, least, lesser, fit}
-use Rattle.mem_model.specs.Cache.{put_in, kept, with_block, with_new, evictions, new_block, without, without_user, without_block}
-use Rattle.mem_model.specs.Gaps.{gap_from, start_of, IsGap, HasSize, size_of_cache}
+use Rattle.mem_model.specs.Cache.{kept, with_block, with_new, evictions, new_block, without, without_user, without_block}
+use Rattle.mem_model.specs.Gaps.{gap_from, start_of, HasSize, size_of_cache}
 use Rattle.mem_model.specs.Turns.{edge, IsAround, IsEvicted}
+use Rattle.mem_model.specs.Tables.{IsOwn}
 use Rattle.mem_model.specs.Laid.{AreBetween, IsCache, count_in, users_of}
-use Rattle.mem_model.proofs.CacheBlocks.{between-spans, find-none, find-some, users_of-filter, count-stays, count-gone, count-append}
+use Rattle.mem_model.proofs.CacheBlocks.{between-spans, find-none, find-some, count-append}
 use Rattle.mem_model.proofs.CacheMoves.{has_sizes, later-without}
 use Rattle.mem_model.proofs.CacheNew.{with_new-placed, evictions_are, none-filtered}
 use Rattle.mem_model.proofs.Gaps.{fit_gap}
@@ -95,12 +94,6 @@ not_or true true = refl
 not_or true false = refl
 not_or false true = refl
 not_or false false = refl
-
-eqb_back : (a b : ℕ) → eqb a b ≡ eqb b a
-eqb_back a b = elim (Rattle.std.proofs.lemmas.Bool.Decides.eqb_tells a b) [
-  | inl same ↦ same.0 ∙ sym (eq-eqb b a (sym same.1))
-  | inr other ↦ other.0 ∙ sym (Rattle.std.proofs.lemmas.Bool.ne_eqb b a (λ e. other.1 (sym e)))
-]
 
 front_left : (front : List ℕ) (u : ℕ) → count_in u (front ++ u ∷ []) ≤ 1 → without_user (front ++ u ∷ []) u ≡ front
 front_left [] u h = rw (eq-eqb u u refl) refl
@@ -219,21 +212,6 @@ edge_is [] start at b h = absurd (cc)
 edge_is (x ∷ xs) start zero b h = (let same : x ≡ b = cc in ap end_of same)
 edge_is (x ∷ xs) start (suc at) b h = edge_is xs (end_of x) at b h
 
--- The position of a user's block, and that there is none.
-pub position_some : (user : ℕ) (blocks : List CacheBlock) (at : ℕ) → position (λ b. nat_eq b.user user) blocks ≡ Some at → (at < length blocks) × (find (λ b. nat_eq b.user user) blocks ≡ slice_get blocks at)
-position_some user blocks at h =
-    let p = λ (b : CacheBlock). nat_eq b.user user in
-    cond_both (ltb (position_or_len p blocks) (length blocks)) (Some (position_or_len p blocks)) None (λ o. o ≡ Some at → (at < length blocks) × (find p blocks ≡ slice_get blocks at))
-    (λ e g. (let same : position_or_len p blocks ≡ at = cc in (omega (arith, ltb-true (position_or_len p blocks) (length blocks) e), find_at p blocks ∙ ap (slice_get blocks) same)))
-    (λ e g. absurd (cc)) h
-
-pub position_none : (user : ℕ) (blocks : List CacheBlock) → position (λ b. nat_eq b.user user) blocks ≡ None → find (λ b. nat_eq b.user user) blocks ≡ None
-position_none user blocks h =
-    let p = λ (b : CacheBlock). nat_eq b.user user in
-    cond_both (ltb (position_or_len p blocks) (length blocks)) (Some (position_or_len p blocks)) None (λ o. o ≡ None → find p blocks ≡ None)
-    (λ e g. absurd (cc))
-    (λ e g. find_at p blocks ∙ slice_get_past blocks (position_or_len p blocks) (ltb-false (position_or_len p blocks) (length blocks) e)) h
-
 pub end_at : (blocks : List CacheBlock) (low high at : ℕ) (b : CacheBlock) → AreBetween low high blocks → slice_get blocks at ≡ Some b → end_of b ≤ high
 end_at [] low high at b a h = absurd (cc)
 end_at (x ∷ xs) low high zero b a h = (let same : x ≡ b = cc in omega (arith, ap end_of same, between-spans xs (end_of x) high a.1))
@@ -244,11 +222,6 @@ edge_below blocks start top zero a = between-spans blocks start top a
 edge_below [] start top (suc at) a = a
 edge_below (b ∷ bs) start top (suc at) a = edge_below bs (end_of b) top at a.1
 
-pub start_there : (blocks : List CacheBlock) (top at : ℕ) (b : CacheBlock) → slice_get blocks at ≡ Some b → start_of top (drop at blocks) ≡ b.place
-start_there [] top at b h = absurd (cc)
-start_there (x ∷ xs) top zero b h = (let same : x ≡ b = cc in ap (λ (y : CacheBlock). y.place) same)
-start_there (x ∷ xs) top (suc at) b h = start_there xs top at b h
-
 -- the user of a recency that is not empty has a block
 pub evicted_block : (c : Cache) (bottom top u : ℕ) (front : List ℕ) → IsCache c (2 ^ 32) bottom top → c.recency ≡ front ++ u ∷ [] → find (λ b. nat_eq b.user u) c.blocks ≡ None → ⊥
 evicted_block c bottom top u front is e none =
@@ -257,6 +230,7 @@ evicted_block c bottom top u front is e none =
 -- The block of an evicted user, by its position.
 pub record IsGone (c : Cache) (bottom top size u at : ℕ) (b : CacheBlock) : Type 0 where
   pub is : IsEvicted bottom top size c (cache_of (remove c.blocks at) (without_user c.recency u))
+  pub removed : without_block c.blocks u ≡ remove c.blocks at
   pub sizes : size_of_cache (remove c.blocks at) + b.size ≡ size_of_cache c.blocks
   pub around : IsAround (remove c.blocks at) bottom size top at
   pub between : AreBetween bottom top (remove c.blocks at)
@@ -264,9 +238,9 @@ pub record IsGone (c : Cache) (bottom top size u at : ℕ) (b : CacheBlock) : Ty
   pub left : (front : List ℕ) → c.recency ≡ front ++ u ∷ [] → without_user c.recency u ≡ front
 
 pub gone : (c : Cache) (bottom top size u at : ℕ) (front : List ℕ) (b : CacheBlock) → IsCache c (2 ^ 32) bottom top → bottom + size ≤ top → 0 < size → c.recency ≡ front ++ u ∷ [] → gap_from bottom size top c.blocks ≡ None →
-    position (λ x. nat_eq x.user u) c.blocks ≡ Some at → slice_get c.blocks at ≡ Some b → IsGone c bottom top size u at b
+    IsOwn c.blocks u at → slice_get c.blocks at ≡ Some b → IsGone c bottom top size u at b
 gone c bottom top size u at front b is fits some e none place here =
-    let found : find (λ x. nat_eq x.user u) c.blocks ≡ Some b = (position_some u c.blocks at place).1 ∙ here in
+    let found : find (λ x. nat_eq x.user u) c.blocks ≡ Some b = place.found ∙ here in
     let own : b.user ≡ u = (find-some u c.blocks b found).0 in
     let p = at_position c.blocks at b is.one_each here in
     let removed : without_block c.blocks u ≡ remove c.blocks at = ap (without_block c.blocks) (sym own) ∙ p.removed in
@@ -276,6 +250,7 @@ gone c bottom top size u at front b is fits some e none place here =
     let s = subst (λ blocks. AllByRecursion HasSize blocks) removed (has_sizes (2 ^ 32) (without_block c.blocks u) ev.order.blocks) in
     record {
       is = subst (λ blocks. IsEvicted bottom top size c (cache_of blocks (without_user c.recency u))) removed ev;
+      removed = removed;
       sizes = p.size;
       around = around (remove c.blocks at) bottom size top at b a s some out.2 (ap (gap_from bottom size top) out.0 ∙ none);
       between = a;

@@ -1,17 +1,16 @@
 -- The turns of a push down, as the plain cache takes them.
-use Rattle.std.proofs.Common.{◌≡◌, ◌≢◌, ℕ, suc, zero, ◌+◌, ◌-◌, ◌*◌, ◌<◌, ◌≤◌, ◌^◌, Bool, true, false, cond, List, [], ◌∷◌, ◌++◌, Option, Some, None, find, take, drop, length, nat_eq, not, leb, ltb, refl, sym, ap, subst, ◌∙◌, arith, inl, inr, length-append, rules}
+use Rattle.std.proofs.Common.{◌≡◌, ℕ, suc, zero, ◌+◌, ◌*◌, ◌<◌, ◌≤◌, ◌^◌, Bool, true, false, cond, List, [], ◌∷◌, ◌++◌, Option, Some, None, length, leb, ltb, refl, sym, ap, subst, ◌∙◌, arith, inl, inr, length-append, rules}
 use Rattle.std.specs.Prelude.{slice_get, is_some, IsSome}
 use Rattle.std.specs.List.{AllByRecursion, insert}
-use Rattle.std.proofs.lemmas.Bool.{le-leb, lt-leb, lt-ltb, ltb-true, ltb-false, eq-eqb, cond_both}
+use Rattle.std.proofs.lemmas.Bool.{lt-leb, lt-ltb, ltb-true, eq-eqb, cond_both}
 use Rattle.std.proofs.lemmas.Bool.Decides.{eqb_tells}
 use Rattle.mem_model.specs.Blocks.{CacheBlock}
 use Rattle.mem_model.specs.Memory.{Cache, cache_of}
 use Rattle.mem_model.specs.Places.{end_of, hop}
-use Rattle.mem_model.specs.Cache.{put_in, without, without_user, without_block, moved, hopped, hopped_to, highest_above, turned, down_in, pushed_down}
+use Rattle.mem_model.specs.Cache.{put_in, without, without_block, moved, hopped, hopped_to, highest_above, turned, down_in, pushed_down}
 use Rattle.mem_model.specs.Gaps.{gap_from, size_of_cache, IsGap, HasSize}
 use Rattle.mem_model.specs.Turns.{IsMove, IsFall, depth}
 use Rattle.mem_model.specs.Laid.{AreBetween, IsCache, count_in, users_of}
-use Rattle.mem_model.proofs.CacheBlocks.{between-spans}
 use Rattle.mem_model.proofs.CacheMoves.{has_sizes, hop_is, rising, later-hopped, found_highest, below_top}
 use Rattle.mem_model.proofs.CacheNew.{fit_is}
 use Rattle.mem_model.proofs.Gaps.{fit_gap, hop_gap, gap_crowded}

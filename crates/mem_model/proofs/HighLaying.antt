@@ -4,10 +4,10 @@ use Rattle.std.specs.Prelude.{◌<◌}
 use Rattle.std.proofs.lemmas.List.{take_at}
 use Rattle.mem_model.specs.Blocks.{HunkBlock, CacheBlock}
 use Rattle.mem_model.specs.Places.{end_of}
-use Rattle.mem_model.specs.Memory.{Memory, size_of, low_used, high_start, room}
+use Rattle.mem_model.specs.Memory.{Memory, size_of, low_used, high_start}
 use Rattle.mem_model.specs.Hunk.{without_temp, temp_freed}
 use Rattle.mem_model.specs.Laid.{Laid, IsHunkBlock, IsTemp, AreBetween}
-use Rattle.mem_model.proofs.Laying.{size_of-append, size_of-take, all-append, all-take}
+use Rattle.mem_model.proofs.Laying.{size_of-take, all-take}
 
 between_higher : (blocks : List CacheBlock) (bottom top high : ℕ) → top ≤ high → AreBetween bottom top blocks → AreBetween bottom high blocks
 between_higher [] bottom top high h p = omega (arith, p)

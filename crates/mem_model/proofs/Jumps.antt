@@ -1,18 +1,18 @@
 -- A push up by larger steps: all hops of a block inside one gap are one move.
-use Rattle.std.proofs.Common.{◌≡◌, ◌≢◌, ℕ, suc, zero, ◌+◌, ◌-◌, ◌*◌, ◌<◌, ◌≤◌, Bool, true, false, cond, List, [], ◌∷◌, ◌++◌, Option, Some, None, filter, find, map, length, nat_eq, not, leb, ltb, eqb, refl, sym, ap, subst, ◌∙◌, ◌⊎◌, inl, inr, arith}
-use Rattle.std.proofs.lemmas.Bool.{ltb-false, ltb-true, lt-ltb, le-ltb, leb-true, leb-false, le-leb, lt-leb, cases_lt, eq-eqb, ne_eqb}
+use Rattle.std.proofs.Common.{◌≡◌, ℕ, suc, zero, ◌+◌, ◌*◌, ◌<◌, ◌≤◌, List, [], ◌∷◌, Option, Some, None, find, length, nat_eq, not, refl, sym, ap, subst, ◌∙◌, inl, inr, arith}
+use Rattle.std.proofs.lemmas.Bool.{lt-ltb, le-ltb, le-leb, lt-leb, cases_lt, eq-eqb}
 use Rattle.std.proofs.lemmas.Bool.Decides.{eqb_tells}
 use Rattle.mem_model.specs.Blocks.{CacheBlock}
 use Rattle.mem_model.specs.Memory.{Cache, cache_of}
-use Rattle.mem_model.specs.Places.{end_of, hop}
-use Rattle.mem_model.specs.Cache.{put_in, without, without_user, without_block, moved, hopped, hopped_to, lowest_below, turned, up_in, pushed_up}
+use Rattle.mem_model.specs.Places.{end_of}
+use Rattle.mem_model.specs.Cache.{put_in, without_user, without_block, moved, hopped, hopped_to, lowest_below, turned, up_in, pushed_up}
 use Rattle.mem_model.specs.Gaps.{start_of, gap_from}
 use Rattle.mem_model.specs.Turns.{height}
-use Rattle.mem_model.specs.Laid.{AreBetween, IsCache, count_in, users_of}
+use Rattle.mem_model.specs.Laid.{IsCache, count_in, users_of}
 use Rattle.mem_model.proofs.CacheBlocks.{between-spans}
 use Rattle.mem_model.proofs.CacheMoves.{has_sizes, rising, later-hopped}
 use Rattle.mem_model.proofs.Gaps.{hop_gap}
-use Rattle.mem_model.proofs.Pushes.{IsRising, IsTurn, height_most, hopped_turn}
+use Rattle.mem_model.proofs.Pushes.{IsRising, height_most, hopped_turn}
 
 -- A push with no block to move leaves the cache.
 up_done : (n bottom top : ℕ) (c : Cache) → lowest_below bottom c.blocks ≡ None → up_in n bottom top c ≡ c

@@ -5,10 +5,9 @@ use Rattle.std.proofs.lemmas.List.{drop_all, take_at, length-replicate}
 use Rattle.std.proofs.lemmas.List.Elements.{All-take}
 use Rattle.std.specs.List.{AllByRecursion}
 use Rattle.mem_model.specs.Blocks.{HunkBlock, CacheBlock}
-use Rattle.mem_model.specs.Memory.{Memory, Cache, new_memory, size_of, low_used, high_start, room}
+use Rattle.mem_model.specs.Memory.{Memory, new_memory, size_of, low_used, high_start}
 use Rattle.mem_model.specs.Places.{hunk_need}
-use Rattle.mem_model.specs.Cache.{pushed_up, up_in, pushed_down, down_in}
-use Rattle.mem_model.specs.Hunk.{hunk_block, with_low, over, with_bytes, with_bytes_from, with_bytes_above, with_low_bytes}
+use Rattle.mem_model.specs.Hunk.{hunk_block, over, with_bytes, with_bytes_from, with_bytes_above, with_low_bytes}
 use Rattle.mem_model.specs.Laid.{Laid, IsMultiple, IsText, IsHunkBlock, AreLowBlocks, AreBetween, first_size}
 
 pub size_of-append : (xs ys : List HunkBlock) → size_of (xs ++ ys) ≡ size_of xs + size_of ys

@@ -7,6 +7,7 @@ pub mod Laws
 pub mod Pushes
 pub mod CacheBlocks
 pub mod CacheMoves
+pub mod Tables
 pub mod CacheNew
 pub mod Gaps
 pub mod Jumps

@@ -1,15 +1,15 @@
 -- The turns of a push up, as the plain cache takes them.
-use Rattle.std.proofs.Common.{◌≡◌, ◌≢◌, ℕ, suc, zero, ◌+◌, ◌-◌, ◌*◌, ◌<◌, ◌≤◌, ◌^◌, Bool, true, false, cond, List, [], ◌∷◌, ◌++◌, Option, Some, None, length, nat_eq, not, leb, ltb, refl, sym, ap, subst, ◌∙◌, arith, rules, ◌/◌}
+use Rattle.std.proofs.Common.{◌≡◌, ℕ, suc, ◌+◌, ◌-◌, ◌*◌, ◌<◌, ◌≤◌, ◌^◌, Bool, true, false, List, [], ◌∷◌, Option, Some, None, leb, ltb, refl, sym, ap, subst, ◌∙◌, arith, rules, ◌/◌}
 use Rattle.std.specs.Prelude.{◌&&◌, ◌||◌, IsSome, MatchOption, slice_get, is_some}
-use Rattle.std.specs.List.{AllByRecursion, insert}
-use Rattle.std.proofs.lemmas.Bool.{le-leb, lt-leb, ltb-true, cond_both}
+use Rattle.std.specs.List.{AllByRecursion}
+use Rattle.std.proofs.lemmas.Bool.{le-leb, ltb-true, cond_both}
 use Rattle.mem_model.specs.Blocks.{CacheBlock}
 use Rattle.mem_model.specs.Memory.{Cache, cache_of}
 use Rattle.mem_model.specs.Places.{end_of, is_clear}
 use Rattle.mem_model.specs.Cache.{put_in, without, without_user, without_block, moved, hopped_to, pushed_up, lowest_below}
 use Rattle.mem_model.specs.Gaps.{start_of, gap_from, size_of_cache, IsGap, HasSize}
-use Rattle.mem_model.specs.Turns.{IsHop, IsMove, IsRise, height}
-use Rattle.mem_model.specs.Laid.{AreBetween, IsCache, count_in, users_of}
+use Rattle.mem_model.specs.Turns.{IsMove, IsRise, height}
+use Rattle.mem_model.specs.Laid.{AreBetween, IsCache}
 use Rattle.mem_model.proofs.CacheBlocks.{between-spans, between_from, between-put_in}
 use Rattle.mem_model.proofs.CacheMoves.{has_sizes}
 use Rattle.mem_model.proofs.CacheNew.{fit_is}

@@ -26,8 +26,11 @@ without c user = record { blocks = without_block c.blocks user; recency = withou
 abbrev pub touched : Cache → ℕ → Cache
 touched c user = record c { recency = user ∷ without_user c.recency user }
 
+abbrev pub find_block : ℕ → List CacheBlock → Option CacheBlock
+find_block user blocks = find (λ b. nat_eq b.user user) blocks
+
 abbrev pub block_of : Cache → ℕ → Option CacheBlock
-block_of c user = find (λ b. nat_eq b.user user) c.blocks
+block_of c user = find_block user c.blocks
 
 -- where the payload of a user's block begins
 abbrev pub peek_place : Cache → ℕ → Option ℕ

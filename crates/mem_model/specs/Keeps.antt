@@ -1,8 +1,8 @@
 -- What an operation leaves of the parts of a memory that it is not about.
-use Rattle.std.specs.Prelude.{ℕ, ◌≡◌, ◌≢◌, List, [], Option, Some, None}
+use Rattle.std.specs.Prelude.{ℕ, ◌≡◌, ◌≢◌, [], Option, Some, None}
 use Rattle.std.specs.Option.{option_map}
 use Rattle.mem_model.specs.Blocks.{CacheBlock}
-use Rattle.mem_model.specs.Memory.{Memory, Cache, Zone}
+use Rattle.mem_model.specs.Memory.{Memory, Cache}
 use Rattle.mem_model.specs.Cache.{block_of}
 
 -- a block of the cache, wherever it stands

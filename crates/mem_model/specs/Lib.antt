@@ -11,6 +11,7 @@ pub mod Apart
 pub mod Laid
 pub mod Gaps
 pub mod Turns
+pub mod Tables
 pub mod Keeps
 pub mod Rows
 pub mod Told

@@ -1,18 +1,19 @@
 //! The cache of a plain store: blocks in rising order of place, and their users by use.
 
-ghost use Rattle.std.specs.Prelude.{◌≡◌, ◌+◌, ◌-◌, ◌^◌, ◌<◌, ◌≤◌, ◌∷◌, [], length, slice_get, position, nat_eq, drop, vec_len, vec_capacity};
+ghost use Rattle.std.specs.Prelude.{◌≡◌, ◌+◌, ◌-◌, ◌^◌, ◌<◌, ◌≤◌, ◌∷◌, [], length, slice_get, slice_index_or, drop, vec_len, vec_capacity};
 ghost use Rattle.std.specs.Prelude.{ℕ, List, map, is_some, IfOk, OnOk, OnErr, IfSome, IsSome, Some, None, MatchOption};
 ghost use Rattle.std.specs.List.{AllByRecursion, insert, remove};
 ghost use Rattle.mem_model.specs.Blocks.{CacheBlock};
-ghost use Rattle.mem_model.specs.Cache.{without_user, without, moved, lowest_below, pushed_up, highest_above, pushed_down, block_of, with_new, touched};
+ghost use Rattle.mem_model.specs.Cache.{without_user, without, moved, lowest_below, pushed_up, highest_above, pushed_down, block_of, find_block, with_new, touched, peek_place};
 ghost use Rattle.mem_model.specs.Rows.{cache_row};
-ghost use Rattle.mem_model.specs.Told.{row_answer};
+ghost use Rattle.mem_model.specs.Told.{row_answer, place_answer};
 ghost use Rattle.mem_model.specs.Laid.{AreBetween, IsCache, IsMultiple, IsText};
 ghost use Rattle.mem_model.specs.Memory.{cache_of};
 ghost use Rattle.mem_model.specs.Gaps.{gap_from, IsGap, HasSize, start_of, size_of_cache};
+ghost use Rattle.mem_model.specs.Tables.{IsTable, IsOwn};
 ghost use Rattle.mem_model.specs.Turns.{IsMove, IsRise, IsFall, IsAround, IsEvicted, IsRoom, shifted, edge};
 
-use crate::answers::BlockRow;
+use crate::answers::{BlockRow, Place};
 use crate::cells::{CacheCell, insert_reserved};
 use std::alloc::{AllocError, Global};
 use std::marker::Model;
@@ -85,11 +86,37 @@ fn touch(recency: &mut [u32], user: u32)
     }
 }
 
-// The position of a user's block.
-fn position_of(cells: &[CacheCell], user: u32) -> Option<usize>
-    ensures { result ≡ position (λ b. nat_eq b.user user) cells.now }
+// Where a user's block stands, by the table of places.
+fn place_in(places: &[Option<u32>], user: u32) -> Option<u32>
+    ensures { result ≡ slice_index_or places.now user None }
 {
-    cells.iter().position(|cell| cell.user() == user)
+    match places.get(user as usize) {
+        Some(place) => *place,
+        None => None,
+    }
+}
+
+// The position of a user's block: the first that doesn't start below its place.
+fn position_of(cells: &[CacheCell], places: &[Option<u32>], user: u32) -> Option<usize>
+    requires sized { AllByRecursion HasSize cells.now }
+    requires between { AreBetween 0 (2 ^ 26) cells.now }
+    requires places { IsTable places.now cells.now }
+    ensures { MatchOption result (find_block user cells.now ≡ None) (λ at. IsOwn cells.now user at) }
+{
+    let place = place_in(places, user)?;
+    Some(cells.partition_point(|cell| cell.place() < place))
+}
+
+// The table has an entry for the user, and more entries say nothing new.
+fn reach(places: &mut Vec<Option<u32>>, user: u32) -> Result<(), AllocError>
+    ensures reached { OnOk result (user < length places.new.items) }
+    ensures same { (u : ℕ) → slice_index_or places.new.items u None ≡ slice_index_or places.old.items u None }
+{
+    let count = user as usize + 1;
+    if places.len() < count {
+        places.resize(count, None)?;
+    }
+    Ok(())
 }
 
 // Where the first of some blocks starts, or the top.
@@ -145,12 +172,14 @@ fn gap_around(cells: &[CacheCell], at: usize, start: u32, size: u32, top: u32) -
 fn evict(
     cells: &mut Vec<CacheCell>,
     recency: &mut Vec<u32>,
+    places: &mut [Option<u32>],
     used: &mut u32,
     bottom: u32,
     size: u32,
     top: u32,
 ) -> Option<Gap>
     requires order { IsCache (cache_of cells.old.items recency.old.items) (2 ^ 32) bottom top }
+    requires places { IsTable places.old cells.old.items }
     requires used { used.old ≡ size_of_cache cells.old.items }
     requires small { (size ≤ 2 ^ 26) × (top ≤ 2 ^ 26) }
     requires fits { (0 < size) × (bottom + size ≤ top) }
@@ -159,6 +188,7 @@ fn evict(
         (λ gap. IsGap cells.new.items bottom size top gap.at gap.place) }
     ensures evicted { IsEvicted bottom top size (cache_of cells.old.items recency.old.items)
         (cache_of cells.new.items recency.new.items) }
+    ensures places { IsTable places.new cells.new.items }
     ensures used { used.new ≡ size_of_cache cells.new.items }
     ensures cells { (vec_capacity cells.new ≡ vec_capacity cells.old) × (vec_len cells.new ≤ vec_len cells.old) }
     ensures recency { (vec_capacity recency.new ≡ vec_capacity recency.old)
@@ -167,10 +197,11 @@ fn evict(
     let Some(user) = recency.pop() else {
         unreachable!()
     };
-    let Some(at) = position_of(cells, user) else {
+    let Some(at) = position_of(cells, places, user) else {
         unreachable!()
     };
     let cell = cells.remove(at);
+    places[user as usize] = None;
     *used -= cell.size();
     gap_around(cells, at, bottom, size, top)
 }
@@ -195,12 +226,14 @@ fn fit(cells: &[CacheCell], used: u32, bottom: u32, size: u32, top: u32) -> Opti
 fn make_room(
     cells: &mut Vec<CacheCell>,
     recency: &mut Vec<u32>,
+    places: &mut [Option<u32>],
     used: &mut u32,
     bottom: u32,
     size: u32,
     top: u32,
 ) -> Gap
     requires order { IsCache (cache_of cells.old.items recency.old.items) (2 ^ 32) bottom top }
+    requires places { IsTable places.old cells.old.items }
     requires used { used.old ≡ size_of_cache cells.old.items }
     requires small { (size ≤ 2 ^ 26) × (top ≤ 2 ^ 26) }
     requires fits { (0 < size) × (bottom + size ≤ top) }
@@ -209,6 +242,7 @@ fn make_room(
     ensures gap { IsGap cells.new.items bottom size top result.at result.place }
     ensures room { IsRoom bottom top size (cache_of cells.old.items recency.old.items)
         (cache_of cells.new.items recency.new.items) }
+    ensures places { IsTable places.new cells.new.items }
     ensures used { used.new ≡ size_of_cache cells.new.items }
     ensures cells { vec_len cells.new < vec_capacity cells.new }
     ensures recency { vec_len recency.new < vec_capacity recency.new }
@@ -217,7 +251,7 @@ fn make_room(
     loop {
         match gap {
             Some(found) => return found,
-            None => gap = evict(cells, recency, used, bottom, size, top),
+            None => gap = evict(cells, recency, places, used, bottom, size, top),
         }
     }
 }
@@ -227,6 +261,9 @@ fn make_room(
 pub struct PlainCache {
     cells: Vec<CacheCell>,
     recency: Vec<u32>,
+    // Where each user's block stands, by user, so that it is found without a walk over the others. Users that never had
+    // a block may lie past the end.
+    places: Vec<Option<u32>>,
     // The sizes of the blocks, added up, so that a search that must fail is not begun.
     used: u32,
 }
@@ -251,6 +288,7 @@ impl PlainCache {
         PlainCache {
             cells: Vec::new(alloc),
             recency: Vec::new(alloc),
+            places: Vec::new(alloc),
             used: 0,
         }
     }
@@ -263,6 +301,7 @@ impl PlainCache {
         let cell = self.cells.remove(at);
         self.used -= cell.size();
         forget(&mut self.recency, cell.user());
+        self.places[cell.user() as usize] = None;
     }
 
     // The block at a position moves, and its user becomes the most recently used.
@@ -276,6 +315,7 @@ impl PlainCache {
         let user = self.cells[from].user();
         touch(&mut self.recency, user);
         shift(&mut self.cells, from, gap.at, gap.place);
+        self.places[user as usize] = Some(gap.place);
     }
 
     // Whether the lowest block starts below a place.
@@ -408,9 +448,11 @@ impl PlainCache {
         let mut cell = CacheCell::zeroed(alloc, size, user, name)?;
         self.cells.reserve(1)?;
         self.recency.reserve(1)?;
+        reach(&mut self.places, user)?;
         let gap = make_room(
             &mut self.cells,
             &mut self.recency,
+            &mut self.places,
             &mut self.used,
             bottom,
             size,
@@ -419,6 +461,7 @@ impl PlainCache {
         cell.set_place(gap.place);
         insert_reserved(&mut self.cells, gap.at, cell);
         insert_reserved(&mut self.recency, 0, user);
+        self.places[user as usize] = Some(gap.place);
         self.used += size;
         Ok(())
     }
@@ -427,7 +470,7 @@ impl PlainCache {
     pub fn cell_of(&self, user: u32) -> Option<&CacheCell>
         ensures { MatchOption result (block_of self.now user ≡ None) (λ cell. block_of self.now user ≡ Some cell.now) }
     {
-        match position_of(&self.cells, user) {
+        match position_of(&self.cells, &self.places, user) {
             Some(at) => Some(&self.cells[at]),
             None => None,
         }
@@ -437,7 +480,17 @@ impl PlainCache {
     pub fn has(&self, user: u32) -> bool
         ensures { result ≡ is_some (block_of self.now user) }
     {
-        self.cell_of(user).is_some()
+        place_in(&self.places, user).is_some()
+    }
+
+    /// The place of the payload of a user's block, where it has one.
+    pub fn peek_place(&self, user: u32) -> Option<Place>
+        ensures { place_answer result ≡ peek_place self.now user }
+    {
+        match place_in(&self.places, user) {
+            Some(place) => Some(Place(place + 40)),
+            None => None,
+        }
     }
 
     /// A user that has a block becomes the most recently used.
@@ -453,7 +506,7 @@ impl PlainCache {
         ensures had { result ≡ is_some (block_of self.old user) }
         ensures left { self.new ≡ without self.old user }
     {
-        match position_of(&self.cells, user) {
+        match position_of(&self.cells, &self.places, user) {
             Some(at) => {
                 self.leave(at);
                 true
@@ -468,6 +521,7 @@ impl PlainCache {
     {
         self.cells.clear();
         self.recency.clear();
+        self.places.clear();
         self.used = 0;
     }
 

@@ -385,10 +385,7 @@ impl Store for PlainStore {
     }
 
     fn peek_place(&self, user: u32) -> Option<Place> {
-        match self.cache.cell_of(user) {
-            Some(cell) => Some(Place(cell.place() + 40)),
-            None => None,
-        }
+        self.cache.peek_place(user)
     }
 
     fn cache_free(&mut self, user: u32) -> bool {

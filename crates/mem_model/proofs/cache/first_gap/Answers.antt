@@ -1,5 +1,5 @@
-use Rattle.std.proofs.Common.{◌≡◌, arith}
-use Rattle.mem_model.proofs.Searches.{searched_bounds, searched_place, searched_here, searched_more, searched_last, searched_none}
+use Rattle.std.proofs.Common.{arith}
+use Rattle.mem_model.proofs.Searches.{searched_bounds, searched_place, searched_here}
 use Rattle.mem_model.proofs.cache.first_gap.Goals as goal
 
 pub overflow_add-place : goal.overflow_add-place

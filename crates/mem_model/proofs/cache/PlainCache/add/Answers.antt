@@ -1,16 +1,14 @@
-use Rattle.std.proofs.Common.{◌≡◌, ◌∙◌, ◌<◌, ◌≤◌, ◌+◌, ◌∷◌, List, [], None, length, ap, sym, refl, subst, arith}
+use Rattle.std.proofs.Common.{◌≡◌, ◌∙◌, ◌++◌, Some, length, take, drop, set, ap, sym, refl, subst, arith}
 use Rattle.std.specs.Prelude.{◌^◌}
-use Rattle.std.specs.List.{insert}
-use Rattle.mem_model.specs.Blocks.{CacheBlock}
-use Rattle.mem_model.specs.Memory.{Cache, cache_of}
-use Rattle.mem_model.specs.Cache.{with_new, new_block, block_of}
-use Rattle.mem_model.specs.Gaps.{size_of_cache}
+use Rattle.mem_model.specs.Memory.{cache_of}
+use Rattle.mem_model.specs.Cache.{new_block}
 use Rattle.mem_model.specs.Turns.{IsRoom}
-use Rattle.mem_model.specs.Laid.{IsCache, count_in, users_of}
-use Rattle.mem_model.specs.CacheState.{cache_in}
 use Rattle.mem_model.proofs.CacheBlocks.{find-none}
 use Rattle.mem_model.proofs.Gaps.{filled}
 use Rattle.mem_model.proofs.Adding.{IsAdded, added, block_is}
+use Rattle.mem_model.specs.Tables.{IsTable}
+use Rattle.mem_model.proofs.CacheEdits.{written_whole}
+use Rattle.mem_model.proofs.Tables.{table-put_in}
 use Rattle.mem_model.proofs.cache.PlainCache.add.Goals as goal
 use Rattle.mem_model.proofs.cache.PlainCache.add.Goals.{After-insert_reserved-2}
 
@@ -29,15 +27,25 @@ grown c =
     (added (cache_of c.make_room-gap.new.cells.items c.make_room-gap.new.recency.items) c.args.bottom c.args.top c.args.size c.args.user c.make_room-gap.result.at c.make_room-gap.result.place c.args.name.now
     r.order c.requires.small c.make_room-gap.ensures.gap (block_is (2 ^ 32) c.args.size c.args.user c.make_room-gap.result.place c.args.name.now c.requires.size.0 c.requires.size.1 (omega (arith, c.ranges.user.fits)) c.requires.name) none)
 
+-- the table with the new block's place
+table : (c : After-insert_reserved-2) → IsTable (set (take c.reach.new.places.len (c.make_room-gap.new.places ++ drop (length c.make_room-gap.new.places) c.reach.new.places.items)) c.args.user (Some c.make_room-gap.result.place)) c.insert_reserved.new.list.items
+table c =
+    let none = (room c).absent c.args.user (find-none c.args.user c.args.self.now.blocks c.requires.free) in
+    let b = new_block c.make_room-gap.result.place c.args.size c.args.user c.args.name.now in
+    let long : length c.make_room-gap.new.places ≡ length c.reach.new.places.items = c.make_room-gap.auto.places ∙ ap length c.deref_mut.ensures.value in
+    rw (written_whole c.make_room-gap.new.places c.reach.new.places.items c.reach.new.places.len long c.reach.new.places.ok.0, c.insert_reserved.ensures, c.set_place.ensures, c.in_ok-cell.ensures, ← c.make_room-gap.ensures.gap.puts b refl)
+    (table-put_in b c.make_room-gap.ensures.places (omega (arith, long, c.in_ok-reach.ensures.reached)) none)
+
 pub overflow_add-self : goal.overflow_add-self
 overflow_add-self c =
-    let g = grown c in
+    let g = grown (goal.at.overflow_add-self c).After-insert_reserved-2 in
     omega (arith, c.make_room-gap.ensures.used, g.sizes, filled c.insert_reserved.new.list.items 0 (2 ^ 26) g.order.between)
 
 pub invariant_of-self-2 : goal.invariant_of-self-2
 invariant_of-self-2 c =
-    let g = grown (goal.at.invariant_of-self-2 c).After-insert_reserved-2 in
-    record { order = g.order; used = omega (arith, c.make_room-gap.ensures.used, g.sizes) }
+    let d = (goal.at.invariant_of-self-2 c).After-insert_reserved-2 in
+    let g = grown d in
+    record { order = g.order; places = table d; used = omega (arith, c.make_room-gap.ensures.used, g.sizes) }
 
 pub returns-clause-ok : goal.returns-clause-ok
 returns-clause-ok c =

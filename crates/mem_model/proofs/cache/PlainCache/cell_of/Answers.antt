@@ -1,20 +1,14 @@
-use Rattle.std.proofs.Common.{◌≡◌, ◌∙◌, Some, None, find, nat_eq, ap, sym, arith}
-use Rattle.std.specs.Prelude.{position, slice_get}
+use Rattle.std.proofs.Common.{◌∙◌, ap, sym, arith}
 use Rattle.std.proofs.lemmas.Option.{slice_get_read}
-use Rattle.mem_model.specs.Memory.{Cache}
-use Rattle.mem_model.specs.Cache.{block_of}
-use Rattle.mem_model.specs.CacheState.{cache_in}
-use Rattle.mem_model.proofs.Evicting.{position_some, position_none}
+use Rattle.mem_model.specs.Cache.{block_of, find_block}
+use Rattle.mem_model.specs.Tables.{IsOwn}
 use Rattle.mem_model.proofs.cache.PlainCache.cell_of.Goals as goal
 
 pub returns-in-Some : goal.returns-in-Some
 returns-in-Some c =
     let s = c.self.inside in
-    let place : position (λ b. nat_eq b.user c.args.user) s.cells.items ≡ Some c.in-Some.at = ap (position (λ b. nat_eq b.user c.args.user)) (sym c.deref.ensures.value) ∙ sym c.in-Some.ensures in
-    let found = position_some c.args.user s.cells.items c.in-Some.at place in
-    ap (λ m. block_of m c.args.user) (sym c.self.view_is) ∙ found.1 ∙ slice_get_read s.cells.items _ c.in-Some.at c.index.result.now s.cells.ok.0 (omega (arith, found.0, s.cells.ok.0)) c.index.ensures
+    let own : IsOwn s.cells.items c.args.user c.in-Some.at = rw c.deref.ensures.value at c.in-Some.ensures in
+    ap (λ m. block_of m c.args.user) (sym c.self.view_is) ∙ own.found ∙ slice_get_read s.cells.items _ c.in-Some.at c.index.result.now s.cells.ok.0 (omega (arith, own.inside, s.cells.ok.0)) c.index.ensures
 
 pub returns-in-None : goal.returns-in-None
-returns-in-None c =
-    let s = c.self.inside in
-    ap (λ m. block_of m c.args.user) (sym c.self.view_is) ∙ position_none c.args.user s.cells.items (ap (position (λ b. nat_eq b.user c.args.user)) (sym c.deref.ensures.value) ∙ sym c.in-None.ensures)
+returns-in-None c = ap (λ m. block_of m c.args.user) (sym c.self.view_is) ∙ ap (find_block c.args.user) (sym c.deref.ensures.value) ∙ c.in-None.ensures

@@ -1,4 +1,4 @@
-use Rattle.std.proofs.Common.{◌≡◌, ◌∙◌, ◌++◌, ◌∷◌, [], ap, sym, subst, arith}
+use Rattle.std.proofs.Common.{◌∙◌, ap, sym, subst}
 use Rattle.std.specs.Prelude.{◌^◌, is_some, nat_lt}
 use Rattle.mem_model.specs.Memory.{Cache}
 use Rattle.mem_model.specs.Cache.{highest_above}

@@ -1,18 +1,15 @@
-use Rattle.std.proofs.Common.{◌≡◌, ◌∙◌, ◌<◌, ◌≤◌, ◌+◌, ◌++◌, ◌∷◌, ℕ, suc, List, [], Some, None, length, ap, sym, refl, subst, arith}
-use Rattle.std.specs.Prelude.{◌^◌, IsSome, MatchOption}
-use Rattle.std.specs.List.{AllByRecursion}
+use Rattle.std.proofs.Common.{◌≡◌, ◌∙◌, ◌<◌, ◌+◌, ◌++◌, ◌∷◌, List, [], Some, None, length, ap, sym, refl, subst, arith}
+use Rattle.std.specs.Prelude.{◌^◌}
 use Rattle.mem_model.specs.Blocks.{CacheBlock}
 use Rattle.mem_model.specs.Memory.{Cache, cache_of}
 use Rattle.mem_model.specs.Places.{end_of}
 use Rattle.mem_model.specs.Cache.{moved, without, highest_above}
 use Rattle.mem_model.specs.Gaps.{IsGap, gap_from, size_of_cache}
 use Rattle.mem_model.specs.Turns.{IsMove, IsFall}
-use Rattle.mem_model.specs.Laid.{IsCache, AreBetween}
-use Rattle.mem_model.specs.CacheState.{cache_in}
+use Rattle.mem_model.specs.Laid.{IsCache}
 use Rattle.mem_model.proofs.Gaps.{filled}
 use Rattle.mem_model.proofs.CacheBlocks.{between-spans}
-use Rattle.mem_model.proofs.Rises.{match_map}
-use Rattle.mem_model.proofs.Falls.{IsHigh, IsFalling, above_last, fall_alone, fall_none, fall_later, fall_crowded, high_size, high_middle, is_highest}
+use Rattle.mem_model.proofs.Falls.{IsHigh, above_last, fall_alone, fall_none, fall_later, fall_crowded, high_size, high_middle, is_highest}
 use Rattle.mem_model.proofs.cache.PlainCache.fall.Goals as goal
 use Rattle.mem_model.proofs.cache.PlainCache.fall.Goals.{After-split_first, In_ok-first}
 

@@ -1,21 +1,20 @@
-use Rattle.std.proofs.Common.{◌≡◌, ◌∙◌, Some, None, find, nat_eq, ap, sym, arith}
-use Rattle.std.specs.Prelude.{◌^◌, position, slice_get, is_some}
+use Rattle.std.proofs.Common.{◌≡◌, ◌∙◌, Some, None, ap, sym}
+use Rattle.std.specs.Prelude.{◌^◌, slice_get, is_some}
 use Rattle.mem_model.specs.Blocks.{CacheBlock}
 use Rattle.mem_model.specs.Memory.{Cache}
-use Rattle.mem_model.specs.Cache.{block_of, without}
+use Rattle.mem_model.specs.Cache.{block_of, find_block, without}
+use Rattle.mem_model.specs.Tables.{IsOwn}
 use Rattle.mem_model.specs.CacheState.{cache_in}
 use Rattle.mem_model.proofs.CacheBlocks.{find-some}
-use Rattle.mem_model.proofs.Evicting.{position_some, position_none, there, without-none}
+use Rattle.mem_model.proofs.Evicting.{there, without-none}
 use Rattle.mem_model.proofs.cache.PlainCache.free.Goals as goal
 
 -- the block that is found
-found : (c : goal.After-leave) → (b : CacheBlock) × (slice_get c.self.inside.cells.items c.in-Some.at ≡ Some b) × (find (λ x. nat_eq x.user c.args.user) c.self.inside.cells.items ≡ Some b)
+found : (c : goal.After-leave) → (b : CacheBlock) × (slice_get c.self.inside.cells.items c.in-Some.at ≡ Some b) × (find_block c.args.user c.self.inside.cells.items ≡ Some b)
 found c =
-    let s = c.self.inside in
-    let place : position (λ b. nat_eq b.user c.args.user) s.cells.items ≡ Some c.in-Some.at = ap (position (λ b. nat_eq b.user c.args.user)) (sym c.deref.ensures.value) ∙ sym c.in-Some.ensures in
-    let at = position_some c.args.user s.cells.items c.in-Some.at place in
-    let b = there s.cells.items c.in-Some.at at.0 in
-    (b.0, b.1, at.1 ∙ b.1)
+    let own : IsOwn c.self.inside.cells.items c.args.user c.in-Some.at = rw c.deref.ensures.value at c.in-Some.ensures in
+    let b = there c.self.inside.cells.items c.in-Some.at own.inside in
+    (b.0, b.1, own.found ∙ b.1)
 
 pub returns-in-Some-clause-had : goal.returns-in-Some-clause-had
 returns-in-Some-clause-had c =
@@ -28,8 +27,8 @@ returns-in-Some-clause-left c =
     c.leave.ensures b.0 (ap (λ (m : Cache). slice_get m.blocks c.in-Some.at) (sym c.self.view_is) ∙ b.1)
     ∙ ap (without c.args.self.now) (find-some c.args.user c.self.inside.cells.items b.0 b.2).0
 
-none : (c : goal.In-None) → find (λ x. nat_eq x.user c.args.user) c.self.inside.cells.items ≡ None
-none c = position_none c.args.user c.self.inside.cells.items (ap (position (λ b. nat_eq b.user c.args.user)) (sym c.deref.ensures.value) ∙ sym c.in-None.ensures)
+none : (c : goal.In-None) → find_block c.args.user c.self.inside.cells.items ≡ None
+none c = ap (find_block c.args.user) (sym c.deref.ensures.value) ∙ c.in-None.ensures
 
 pub returns-in-None-clause-had : goal.returns-in-None-clause-had
 returns-in-None-clause-had c = sym (ap (λ m. is_some (block_of m c.args.user)) (sym c.self.view_is) ∙ ap is_some (none c))

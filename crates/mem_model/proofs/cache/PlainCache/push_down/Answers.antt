@@ -1,8 +1,4 @@
-use Rattle.std.proofs.Common.{◌≡◌, ◌∙◌, ◌<◌, ◌≤◌, ◌+◌, ◌∷◌, ℕ, List, [], Some, None, true, false, length, ap, sym, refl, subst, arith}
-use Rattle.std.specs.Prelude.{slice_get, is_some}
-use Rattle.mem_model.specs.Blocks.{CacheBlock}
-use Rattle.mem_model.specs.Memory.{Cache}
-use Rattle.mem_model.specs.Cache.{highest_above}
+use Rattle.std.proofs.Common.{◌≡◌, ◌∙◌, Some, sym, subst}
 use Rattle.mem_model.specs.Turns.{IsFall, IsMove}
 use Rattle.mem_model.proofs.Falls.{pushed_down-done, none_above, some_highest, at_last}
 use Rattle.mem_model.proofs.cache.PlainCache.push_down.Goals as goal

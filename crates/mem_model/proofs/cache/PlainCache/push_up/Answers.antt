@@ -1,8 +1,5 @@
-use Rattle.std.proofs.Common.{◌≡◌, ◌∙◌, ◌<◌, ◌∷◌, List, [], Some, None, true, false, ap, sym, refl, subst, arith}
-use Rattle.std.specs.Prelude.{slice_get, is_some}
-use Rattle.mem_model.specs.Blocks.{CacheBlock}
-use Rattle.mem_model.specs.Memory.{Cache}
-use Rattle.mem_model.specs.Cache.{lowest_below}
+use Rattle.std.proofs.Common.{◌∙◌, ap, sym}
+use Rattle.std.specs.Prelude.{slice_get}
 use Rattle.mem_model.specs.Turns.{IsRise}
 use Rattle.mem_model.proofs.Jumps.{pushed_up-done}
 use Rattle.mem_model.proofs.Rises.{at_front, first_below, none_below}

@@ -1,4 +1,4 @@
-use Rattle.std.proofs.Common.{◌≡◌, ℕ}
+use Rattle.std.proofs.Common.{◌≡◌}
 use Rattle.mem_model.specs.Cache.{pushed_up}
 use Rattle.mem_model.specs.Turns.{height}
 use Rattle.mem_model.specs.Laid.{AreBetween}

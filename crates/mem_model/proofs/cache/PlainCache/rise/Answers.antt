@@ -1,15 +1,13 @@
-use Rattle.std.proofs.Common.{◌≡◌, ◌∙◌, ◌<◌, ◌≤◌, ◌+◌, ◌-◌, ◌*◌, ◌/◌, ◌∷◌, ℕ, suc, List, Some, None, length, ap, sym, refl, subst, arith}
+use Rattle.std.proofs.Common.{◌≡◌, ◌∙◌, ◌<◌, ◌≤◌, ◌+◌, ◌-◌, ◌*◌, ◌/◌, ◌∷◌, ℕ, suc, List, ap, sym, subst, arith}
 use Rattle.std.specs.Prelude.{◌^◌, IsSome, MatchOption}
-use Rattle.std.specs.List.{AllByRecursion}
 use Rattle.mem_model.specs.Blocks.{CacheBlock}
 use Rattle.mem_model.specs.Memory.{Cache, cache_of}
 use Rattle.mem_model.specs.Cache.{moved, without, lowest_below}
-use Rattle.mem_model.specs.Gaps.{IsGap, start_of, gap_from, size_of_cache}
+use Rattle.mem_model.specs.Gaps.{start_of, size_of_cache}
 use Rattle.mem_model.specs.Turns.{IsMove, IsRise}
 use Rattle.mem_model.specs.Laid.{IsCache, AreBetween}
-use Rattle.mem_model.specs.CacheState.{cache_in}
 use Rattle.mem_model.proofs.Gaps.{filled}
-use Rattle.mem_model.proofs.Rises.{IsLow, IsRising, rise_inside, rise_later, rise_none, rise_crowded, low_start, low_sized, below_low, match_map, hops}
+use Rattle.mem_model.proofs.Rises.{IsLow, rise_inside, rise_later, rise_none, rise_crowded, low_start, low_sized, below_low, match_map, hops}
 use Rattle.mem_model.proofs.cache.PlainCache.rise.Goals as goal
 use Rattle.mem_model.proofs.cache.PlainCache.rise.Goals.{After-start_of-limit}
 

@@ -1,8 +1,8 @@
-use Rattle.std.proofs.Common.{◌≡◌, ◌∙◌, ◌<◌, ◌++◌, Some, find, nat_eq, length, take, drop, ap, sym, refl, subst, arith}
-use Rattle.std.specs.Prelude.{◌^◌, IsSome, is_some}
-use Rattle.mem_model.specs.Memory.{Cache, cache_of}
+use Rattle.std.proofs.Common.{◌≡◌, ◌∙◌, ◌++◌, length, take, drop, ap, sym, subst, arith}
+use Rattle.std.specs.Prelude.{◌^◌, IsSome}
+use Rattle.mem_model.specs.Memory.{cache_of}
 use Rattle.mem_model.specs.Cache.{block_of, touched}
-use Rattle.mem_model.specs.Laid.{IsCache, count_in, users_of}
+use Rattle.mem_model.specs.Laid.{IsCache, count_in}
 use Rattle.mem_model.specs.CacheState.{cache_in}
 use Rattle.mem_model.proofs.CacheEdits.{written_whole}
 use Rattle.mem_model.proofs.Shifts.{shifted_is}
@@ -25,6 +25,7 @@ now c =
 pub invariant_of-self : goal.invariant_of-self
 invariant_of-self c = record {
   order = subst (λ m. IsCache m (2 ^ 32) 0 (2 ^ 26)) (now c) (IsCache-touched (cache_in c.self.inside) (2 ^ 32) 0 (2 ^ 26) c.args.user c.self.invariant.order (some_true (block_of (cache_in c.self.inside) c.args.user) (has c)));
+  places = c.self.invariant.places;
   used = c.self.invariant.used;
 }
 

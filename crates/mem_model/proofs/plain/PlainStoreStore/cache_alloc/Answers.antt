@@ -1,10 +1,9 @@
-use Rattle.std.proofs.Common.{◌≡◌, ◌∙◌, ◌<◌, ◌≤◌, ◌-◌, refl, ap, sym, subst, arith, true, false, Ok}
+use Rattle.std.proofs.Common.{◌≡◌, ◌∙◌, ◌<◌, ◌-◌, refl, ap, sym, subst, arith, false, Ok}
 use Rattle.std.specs.Prelude.{is_some}
 use Rattle.mem_model.specs.Answer.{Answers}
 use Rattle.mem_model.specs.Laid.{Laid}
-use Rattle.mem_model.specs.Memory.{Memory, room, low_used}
-use Rattle.mem_model.specs.Places.{cache_need}
-use Rattle.mem_model.specs.Cache.{block_of, with_new}
+use Rattle.mem_model.specs.Memory.{Memory, room}
+use Rattle.mem_model.specs.Cache.{block_of}
 use Rattle.mem_model.specs.Operations.{cache_alloc}
 use Rattle.mem_model.specs.PlainState.{state_of}
 use Rattle.mem_model.proofs.Calling.{cache_alloc_occupied, cache_alloc_bad, cache_alloc_short, cache_alloc_taken}

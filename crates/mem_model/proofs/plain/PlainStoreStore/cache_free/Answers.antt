@@ -1,5 +1,4 @@
 use Rattle.std.proofs.Common.{refl, sym, subst}
-use Rattle.mem_model.specs.Answer.{Answers}
 use Rattle.mem_model.specs.Laid.{Laid}
 use Rattle.mem_model.specs.PlainState.{state_of}
 use Rattle.mem_model.proofs.Calling.{cache_free_gives}

@@ -5,7 +5,7 @@ use Rattle.mem_model.specs.Blocks.{CacheBlock}
 use Rattle.mem_model.specs.Answer.{Answers}
 use Rattle.mem_model.specs.Laid.{Laid}
 use Rattle.mem_model.specs.Memory.{Memory}
-use Rattle.mem_model.specs.Cache.{block_of, peek_place, touched}
+use Rattle.mem_model.specs.Cache.{block_of, peek_place}
 use Rattle.mem_model.specs.Operations.{check}
 use Rattle.mem_model.specs.PlainState.{state_of}
 use Rattle.mem_model.proofs.Calling.{check_some, check_none}
