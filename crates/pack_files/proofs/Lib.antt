@@ -3,3 +3,4 @@ pub mod Headers
 pub mod Packing
 pub mod Tables
 pub mod Filtering
+pub mod Counting

@@ -17,7 +17,7 @@ bad_bytes : (bytes : List ℕ) (error : PackError) → IsHeader bytes (Err error
 unfolding pack_of
 bad_bytes bytes (Bad fault) is = rw is
 bad_bytes bytes FolderFault is = tt
-bad_bytes bytes OutOfMemory is = tt
+bad_bytes bytes OutOfMemory is = absurd is
 
 bad_file : (file : Option (List ℕ)) (error : PackError) → IfSome file (λ bytes. IsHeader bytes (Err error)) → IfSome file (λ bytes. IsAnswer (pack_of bytes) (Err error))
 bad_file None error is = tt

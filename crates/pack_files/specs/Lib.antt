@@ -2,3 +2,4 @@ pub mod Answers
 pub mod Filters
 pub mod Hashes
 pub mod Packs
+pub mod Reads

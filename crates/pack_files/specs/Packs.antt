@@ -1,5 +1,6 @@
 -- Packs: a header, and a directory of rows.
-use Rattle.std.specs.Prelude.{ℕ, ◌+◌, ◌*◌, ◌/◌, not, ◌||◌, nat_eq, nat_lt, if◌then◌else◌, List, [], ◌∷◌, length, take, map, filter, slice_range, Option, Some, None, Result, Ok, Err, bytes_eq, codes}
+use Rattle.std.specs.Prelude.{ℕ, ◌+◌, ◌*◌, ◌/◌, not, ◌||◌, nat_eq, nat_lt, if◌then◌else◌, List, [], ◌∷◌, length, take}
+use Rattle.std.specs.Prelude.{map, filter, slice_range, Option, Some, None, Result, Ok, Err, bytes_eq, codes}
 use Rattle.std.specs.List.{starts_with}
 use Rattle.std.specs.Simd.{first_chunks}
 use Rattle.base_fields.specs.Fields.{u32_in}
@@ -16,7 +17,10 @@ pub record Row : Type 0 where
 
 -- the row in these 64 bytes
 abbrev pub row_of : List ℕ → Row
-row_of bytes = record { name = until_zero (take 56 bytes); entry = record { offset = u32_in bytes 56; length = u32_in bytes 60 } }
+row_of bytes = record {
+  name = until_zero (take 56 bytes);
+  entry = record { offset = u32_in bytes 56; length = u32_in bytes 60 };
+}
 
 -- where the directory stands, and how many rows it has
 abbrev pub directory_at : List ℕ → ℕ
@@ -69,4 +73,5 @@ unless (Some fault) table = Err fault
 -- what a pack's bytes are
 unfoldable pub pack_of : List ℕ → Result PackTable PackFault
 pack_of bytes =
-    unless (fault_of bytes (length bytes)) (record { rows = first_rows (rows_of bytes); count = count_of bytes; whole = length bytes })
+    unless (fault_of bytes (length bytes))
+    (record { rows = first_rows (rows_of bytes); count = count_of bytes; whole = length bytes })

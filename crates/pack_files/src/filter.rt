@@ -36,7 +36,8 @@ impl Filter {
     fn add(&mut self, pack: u32, hash: u32)
         requires { pack < 32 }
         ensures added { may_have self.new.masks.items pack hash ≡ 1 }
-        ensures kept { (other name : ℕ) → may_have self.old.masks.items other name ≡ 1 → may_have self.new.masks.items other name ≡ 1 }
+        ensures kept { (other name : ℕ) → may_have self.old.masks.items other name ≡ 1
+            → may_have self.new.masks.items other name ≡ 1 }
     {
         self.masks[(hash % 65536) as usize] |= 1 << pack;
     }
@@ -45,7 +46,8 @@ impl Filter {
     pub fn add_all(&mut self, pack: u32, directory: &Pack)
         requires { pack < 32 }
         ensures added { HasRows self.new.masks.items pack directory.now.rows }
-        ensures kept { (other name : ℕ) → may_have self.old.masks.items other name ≡ 1 → may_have self.new.masks.items other name ≡ 1 }
+        ensures kept { (other name : ℕ) → may_have self.old.masks.items other name ≡ 1
+            → may_have self.new.masks.items other name ≡ 1 }
     {
         for row in 0..directory.rows() {
             self.add(pack, name_hash(directory.name(row)));

@@ -104,7 +104,7 @@ pub folders_told : {F : Type 0} (files : F → Option (List File)) (held : List 
     → All (λ mounted. folder_of mounted < length (map files held)) mounts
 folders_told files held number mounts is before = folders_before number (length (map files held)) mounts (omega (arith, is, length-map held files)) before
 
-length_packs : (folder number : ℕ) (counts : List ℕ) → length (pack_rows folder number counts) ≡ length counts
+pub length_packs : (folder number : ℕ) (counts : List ℕ) → length (pack_rows folder number counts) ≡ length counts
 length_packs folder number [] = refl
 length_packs folder number (count ∷ counts) = ap suc (length_packs folder (number + 1) counts)
 

@@ -1,5 +1,6 @@
 -- What the calls of the path answer.
-use Rattle.std.specs.Prelude.{◌≡◌, ℕ, ◌+◌, ◌^◌, ◌<◌, ◌≤◌, List, [], ◌∷◌, ◌++◌, length, map, reverse, take, slice_get, slice_range, Option, Some, None, option_map, IfSome, IsOkAnd, Result, Ok, Err, ⊤}
+use Rattle.std.specs.Prelude.{◌≡◌, ℕ, ◌+◌, ◌^◌, ◌<◌, ◌≤◌, List, [], ◌∷◌, ◌++◌, length, map, reverse, take, slice_get}
+use Rattle.std.specs.Prelude.{slice_range, Option, Some, None, option_map, IfSome, IsOkAnd, Result, Ok, Err, ⊤}
 use Rattle.outside_io.specs.Causes.{Rose}
 use Rattle.search_paths.specs.declared.answers.FileRef.{FileRef}
 use Rattle.search_paths.specs.declared.answers.FolderFault.{FolderFault}
@@ -47,7 +48,8 @@ HasAsked rows (Ok (Some file)) most = most ≡ file.mount + 1
 HasAsked rows (Err fault) most = (last : ℕ) × (most ≡ last + 1) × (slice_get rows last ≡ Some (row.Folder fault.folder))
 
 -- The mounts are asked one after another, from the front on: each folder among those that were asked was called once.
-pub record AsksInOrder {F : Type 0} (calls : F → ℕ) (rows : List MountRow) (before after : List F) (result : Result (Option FileRef) FolderFault) : Type 0 where
+pub record AsksInOrder {F : Type 0} (calls : F → ℕ) (rows : List MountRow) (before after : List F)
+    (result : Result (Option FileRef) FolderFault) : Type 0 where
   pub most : ℕ
   pub asked : HasAsked rows result most
   pub called : CallsOnce calls (folders_among (take most rows)) before after
@@ -63,8 +65,8 @@ pub record IsFileRef (mounts : ℕ) (file : FileRef) : Type 0 where
   pub offset : file.offset < 2 ^ 32
   pub length : file.length < 2 ^ 62
 
--- The mounts of the folder stand in front of those before, or the bad pack is its first. A fault of the folder and a want of
--- memory say nothing of its packs.
+-- The mounts of the folder stand in front of those before, or the bad pack is its first. What a fault of the folder and a
+-- want of memory say of its packs stands in `Asks`.
 abbrev pub IsMounted : Result (List Mount) BadPack → List (Option Mount) → List (Option Mount) → Result (Unit {0}) MountError
     → Type 0
 IsMounted own before after (Ok done) = IsOkAnd own (λ mounts. after ≡ map Some mounts ++ before)

@@ -1,5 +1,6 @@
 -- The counts of folders, each at its number.
-use Rattle.std.specs.Prelude.{◌≡◌, ◌≢◌, ◌<◌, ◌≤◌, ℕ, List, [], ◌∷◌, All, length, map, slice_get, slice_index, slice_set, Result, IfErr}
+use Rattle.std.specs.Prelude.{◌≡◌, ◌≢◌, ◌<◌, ◌≤◌, ℕ, List, [], ◌∷◌, All, length, map, slice_get, slice_index}
+use Rattle.std.specs.Prelude.{slice_set, Result, IfErr}
 use Rattle.outside_io.specs.Causes.{Rose, one_more}
 use Rattle.search_paths.specs.declared.answers.FolderFault.{FolderFault}
 

@@ -40,4 +40,5 @@ IsDirectory told mounted = (folder pack : ℕ) (directory : PackTable) → mount
 -- the filter of its folder may have each name of a pack
 abbrev pub IsFiltered : List Filter → Mounted → Type 0
 IsFiltered filters (kept.Folder folder) = ⊤
-IsFiltered filters (kept.Pack folder pack directory) = (pack < 32) × IsSomeAnd (slice_get filters folder) (λ filter. HasRows filter.masks.items pack directory.rows)
+IsFiltered filters (kept.Pack folder pack directory) =
+    (pack < 32) × IsSomeAnd (slice_get filters folder) (λ filter. HasRows filter.masks.items pack directory.rows)

@@ -1,5 +1,6 @@
 -- Mounts: what has files by their names, and the path of them.
-use Rattle.std.specs.Prelude.{ℕ, zero, suc, ◌+◌, nat_le, if◌then◌else◌, List, [], ◌∷◌, ◌++◌, length, map, slice_range, Option, Some, None, option_map, Result, Ok, Err, bytes_eq, codes, decimal}
+use Rattle.std.specs.Prelude.{ℕ, zero, suc, ◌+◌, nat_le, if◌then◌else◌, List, [], ◌∷◌, ◌++◌, length, map, slice_range}
+use Rattle.std.specs.Prelude.{Option, Some, None, option_map, Result, Ok, Err, bytes_eq, codes, decimal}
 use Rattle.std.specs.Option.{option_or}
 use Rattle.std.specs.Result.{result_map_both}
 use Rattle.outside_io.specs.Files.{File, bytes_of}
@@ -66,8 +67,8 @@ abbrev pub here_or_later : ℕ → Option FileAt → Option (Option (ℕ × File
 here_or_later number None later = later
 here_or_later number (Some file) later = Some (Some (number, file))
 
--- The same among mounts of which not all are told: they are walked from the front, and where one that isn't told comes before the
--- first that has the name, it is not told what is found. The first mount has this number.
+-- The same among mounts of which not all are told: they are walked from the front, and where one that isn't told comes
+-- before the first that has the name, it is not told what is found. The first mount has this number.
 abbrev pub find_told_from : ℕ → List ℕ → List (Option Mount) → Option (Option (ℕ × FileAt))
 find_told_from number name [] = Some None
 find_told_from number name (None ∷ mounts) = None

@@ -1,5 +1,6 @@
 -- The path: its folders with what they tell and their counts, and its mounts, from its front on.
-use Rattle.std.specs.Prelude.{◌≡◌, ◌*◌, ◌<◌, ◌≤◌, ℕ, List, [], ◌∷◌, ◌++◌, All, length, map, slice_get, Option, Some, option_map, option_and_then, Result}
+use Rattle.std.specs.Prelude.{◌≡◌, ◌+◌, ◌-◌, ◌*◌, ◌<◌, ◌≤◌, ℕ, List, [], ◌∷◌, ◌++◌, All, length, map, slice_get}
+use Rattle.std.specs.Prelude.{Option, Some, option_map, option_and_then, Result}
 use Rattle.std.specs.Option.{option_flatten}
 use Rattle.outside_io.specs.Files.{File}
 use Rattle.pack_files.specs.declared.filter.Filter.{Filter}
@@ -7,6 +8,7 @@ use Rattle.search_paths.specs.declared.answers.MountError.{MountError}
 use Rattle.search_paths.specs.declared.answers.MountRow.{MountRow}
 use Rattle.search_paths.specs.declared.mounted.Mounted.{Mounted}
 use Rattle.search_paths.specs.Answers.{IsCaused}
+use Rattle.search_paths.specs.Calls.{Asks}
 use Rattle.search_paths.specs.Mounts.{Mount}
 use Rattle.search_paths.specs.Kept.{folder_of, row_of, mount_of, IsDirectory, IsFiltered}
 
@@ -44,8 +46,8 @@ module _ {F : Type 0} (files : F → Option (List File)) where
   abbrev pub mounts_of : PathState F → Option (List Mount)
   mounts_of path = all_some (told_mounts path)
 
--- At most 65536 folders, and 33 mounts for each. The folder of a mount is there, and a directory is the one that it has. Each
--- folder has a filter, by which its packs may have each of their names.
+-- At most 65536 folders, and 33 mounts for each. The folder of a mount is there, and a directory is the one that it has.
+-- Each folder has a filter, by which its packs may have each of their names.
 pub record IsPath {F : Type 0} (files : F → Option (List File)) (filters : List Filter) (path : PathState F) : Type 0 where
   pub most : length path.folders ≤ 65536
   pub few : length path.mounts ≤ 33 * length path.folders
@@ -60,12 +62,13 @@ pub record SamePath {F : Type 0} (files : F → Option (List File)) (before afte
   pub mounts : told_mounts files after ≡ told_mounts files before
   pub told : told_of files after ≡ told_of files before
 
--- A folder is kept last: this is what it is now. It tells what it told, its counts don't fall, and a fault has its cause.
+-- A folder is kept last: this is what it is now. It tells what it told, its faults don't fall, and a fault has its cause.
+-- It was asked for its packs, of which as many are mounted as the path has mounts more, but for the folder itself.
 pub record AddsFolder {F : Type 0} (files : F → Option (List File)) (faults calls : F → ℕ) (folder : F)
     (before after : PathState F) (result : Result (Unit {0}) MountError) : Type 0 where
   pub now : F
   pub last : after.folders ≡ before.folders ++ now ∷ []
   pub told : files now ≡ files folder
   pub fault_count : faults folder ≤ faults now
-  pub call_count : calls folder ≤ calls now
+  pub asks : Asks files calls (length after.mounts - (length before.mounts + 1)) folder now result
   pub caused : IsCaused (faults folder) (faults now) result

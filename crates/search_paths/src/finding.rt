@@ -3,7 +3,8 @@ ghost use Rattle.std.specs.Prelude.{◌≡◌, ◌<◌, ◌≤◌, ◌+◌, ◌*
 ghost use Rattle.std.specs.Prelude.{◌∷◌, [], All, IfOk, IfErr, IfSome, OnOk};
 ghost use Rattle.std.specs.Option.{option_flatten};
 ghost use Rattle.pack_files.specs.Hashes.{hash_of};
-ghost use Rattle.search_paths.specs.Answers.{ref_of, IsFirstOf, HasFile, IsFileRef, IsFilePart, AsksInOrder, folders_among, folder_in};
+ghost use Rattle.search_paths.specs.Answers.{ref_of, IsFirstOf, HasFile, IsFileRef, IsFilePart, AsksInOrder};
+ghost use Rattle.search_paths.specs.Answers.{folders_among, folder_in};
 ghost use Rattle.search_paths.specs.Counts.{NoneFalls, HasFolderCause, CallsOnce};
 ghost use Rattle.search_paths.specs.Kept.{folder_of, row_of, mount_of, IsDirectory, IsFiltered};
 ghost use Rattle.search_paths.specs.Mounts.{file_in, packed_file};
@@ -19,10 +20,10 @@ use outside_io::Folder;
 use pack_files::{Filter, Pack, name_hash};
 
 impl<F: Folder> Paths<F> {
-    /// The file of the first mount that has the name, or `None` exactly where no mount has it. A contract tells which where the
-    /// mounts up to that one are told, or all are. A folder's fault comes only
-    /// where it is counted. The mounts are asked from the front of the path on, up to the one that has the file: a folder is
-    /// called once, and a pack's directory is looked up without a call.
+    /// The file of the first mount that has the name, or `None` exactly where no mount has it. A contract tells which
+    /// where the mounts up to that one are told, or all are. A folder's fault comes only where it is counted. The mounts
+    /// are asked from the front of the path on, up to the one that has the file: a folder is called once, and a pack's
+    /// directory is looked up without a call.
     pub fn find(&mut self, name: &GameName) -> Result<Option<FileRef>, FolderFault>
         ensures first { IfOk result (λ file. IsFirstOf name.now (told_mounts F.files self.old) file) }
         ensures there { IfOk result (λ file.
@@ -37,7 +38,8 @@ impl<F: Folder> Paths<F> {
     }
 
     /// Fills `into` with the bytes from `at` on of the file that was found under this name. After an error `into` may hold
-    /// anything. A folder's fault comes only where it is counted. The folder of the file's mount is called once, and no other.
+    /// anything. A folder's fault comes only where it is counted. The folder of the file's mount is called once, and no
+    /// other.
     pub fn read(
         &mut self,
         file: &FileRef,

@@ -1,8 +1,10 @@
 // Mounting a folder and its packs.
-ghost use Rattle.std.specs.Prelude.{◌≡◌, ◌<◌, ◌≤◌, ◌⊎◌, ◌++◌, All, [], Err, length, map, option_map, IfErr, IfOk, IfSome, IsErrOf, IsOkAnd, OnOk, OnErr, reverse};
+ghost use Rattle.std.specs.Prelude.{◌≡◌, ◌<◌, ◌≤◌, ◌-◌, ◌⊎◌, ◌++◌, All, [], Ok, Err, length, map, option_map, IfErr};
+ghost use Rattle.std.specs.Prelude.{IfOk, IfSome, IsErrOf, IsOkAnd, OnOk, OnErr, reverse};
 ghost use Rattle.outside_io.specs.Files.{bytes_of};
 ghost use Rattle.pack_files.specs.Packs.{pack_of};
 ghost use Rattle.search_paths.specs.Answers.{AddsRows, IsCaused, IsMounted, IsOfFolder};
+ghost use Rattle.search_paths.specs.Calls.{Asks, AsksPack};
 ghost use Rattle.search_paths.specs.Kept.{row_of};
 ghost use Rattle.search_paths.specs.Mounts.{own_mounts, pack_name};
 ghost use Rattle.search_paths.specs.Own.{mount_in, IsOwn, IsIn, IsFound};
@@ -23,12 +25,13 @@ impl<F: Folder> Paths<F> {
     /// Puts the folder to the front of the path, and then its packs in front of it, one after another, up to the first that
     /// is missing, and 32 at most. Fewer than 65536 folders may have been handed in before. After an error the path is as
     /// before, and the folder is kept last among the folders; where memory was wanting it may be dropped instead. A bad pack
-    /// is the first of the folder; a folder's fault comes only where it is counted.
+    /// is the first of the folder; a folder's fault comes only where it is counted, and no pack before the one that it was
+    /// asked for is bad. The folder is called once for each pack's length, header and directory.
     pub fn mount(&mut self, alloc: Global, folder: F) -> Result<(), MountError>
         requires { length self.old.folders < 65536 }
         ensures mounted { IfSome (F.files folder) (λ files.
-            IsMounted (own_mounts (length self.old.folders) files) (told_mounts F.files self.old) (told_mounts F.files self.new)
-            result) }
+            IsMounted (own_mounts (length self.old.folders) files) (told_mounts F.files self.old)
+            (told_mounts F.files self.new) result) }
         ensures rows { OnOk result (AddsRows (length self.old.folders) (rows_of self.old) (rows_of self.new)) }
         ensures same { OnErr result ((rows_of self.new ≡ rows_of self.old)
             × (told_mounts F.files self.new ≡ told_mounts F.files self.old)) }
@@ -89,7 +92,8 @@ fn read_mounts<F: Folder>(
     ensures same { F.files folder.new ≡ F.files folder.old }
     ensures cause { IfErr result (λ error. IsCaused (F.folder_faults folder.old) (F.folder_faults folder.new) (Err error)) }
     ensures faults { F.folder_faults folder.old ≤ F.folder_faults folder.new }
-    ensures calls { F.folder_calls folder.old ≤ F.folder_calls folder.new }
+    ensures asks { IfOk result (λ own. Asks F.files F.folder_calls (length own.items - 1) folder.old folder.new (Ok tt)) }
+    ensures asked { IfErr result (λ error. Asks F.files F.folder_calls 0 folder.old folder.new (Err error)) }
 {
     let mut mounts = Vec::new(alloc);
     let Ok(()) = mounts.push(Mounted::Folder { folder: number }) else {
@@ -128,7 +132,7 @@ fn find_pack<F: Folder>(
     ensures same { F.files folder.new ≡ F.files folder.old }
     ensures cause { IfErr result (λ error. IsCaused (F.folder_faults folder.old) (F.folder_faults folder.new) (Err error)) }
     ensures faults { F.folder_faults folder.old ≤ F.folder_faults folder.new }
-    ensures calls { F.folder_calls folder.old ≤ F.folder_calls folder.new }
+    ensures asks { AsksPack F.files F.folder_calls pack folder.old folder.new result }
 {
     let text = name_of_pack(pack);
     let name = text.as_str().as_bytes();

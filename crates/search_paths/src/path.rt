@@ -27,7 +27,8 @@ impl<F: Folder> Model for Paths<F> {
 
     ghost view = { λ p. record { folders = p.folders.items; mounts = p.mounts.items } };
 
-    ghost invariant = { λ p. IsPath F.files p.filters.items (record { folders = p.folders.items; mounts = p.mounts.items }) };
+    ghost invariant = { λ p.
+        IsPath F.files p.filters.items (record { folders = p.folders.items; mounts = p.mounts.items }) };
 }
 
 impl<F: Folder> Paths<F> {

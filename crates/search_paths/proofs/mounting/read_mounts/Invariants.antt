@@ -1,4 +1,6 @@
-use Rattle.std.proofs.Common.{◌≡◌, ◌-◌, ◌≤◌, All, IfSome}
+use Rattle.std.proofs.Common.{◌≡◌, ◌*◌, ◌-◌, ◌≤◌, All, IfSome}
+use Rattle.outside_io.specs.Causes.{many_more}
+use Rattle.search_paths.specs.Calls.{AreTaken}
 use Rattle.search_paths.specs.Own.{IsOwn, IsIn}
 use Rattle.search_paths.proofs.OwnMounts.{AreMade, AreListed}
 use Rattle.search_paths.proofs.mounting.read_mounts.Given as goal
@@ -11,5 +13,6 @@ invariant-loop-pack g l = record {
   filtered : All (IsIn l.filter) l.mounts.items;
   same : g.F.Folder.files l.folder ≡ g.F.Folder.files l.initial.folder;
   faults : g.F.Folder.folder_faults l.initial.folder ≤ g.F.Folder.folder_faults l.folder;
-  calls : g.F.Folder.folder_calls l.initial.folder ≤ g.F.Folder.folder_calls l.folder;
+  calls : g.F.Folder.folder_calls l.folder ≡ many_more (3 * l.pack) (g.F.Folder.folder_calls l.initial.folder);
+  taken : IfSome (g.F.Folder.files l.initial.folder) (AreTaken l.pack);
 }

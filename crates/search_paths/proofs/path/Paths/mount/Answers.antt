@@ -1,10 +1,11 @@
-use Rattle.std.proofs.Common.{◌≡◌, All, ap, ◌∙◌, List, ℕ, rules, length-append, ◌+◌, ◌*◌, ◌<◌, ◌++◌, ◌∷◌, [], length, map, refl, subst, sym, arith}
+use Rattle.std.proofs.Common.{◌≡◌, All, ap, ◌∙◌, List, ℕ, rules, length-append, ◌+◌, ◌*◌, ◌<◌, ◌++◌, ◌∷◌, [], length, map, refl, subst, sym, arith, inr}
 use Rattle.std.proofs.lemmas.List.{length-map}
 use Rattle.search_paths.specs.Kept.{folder_of, IsDirectory, IsFiltered}
 use Rattle.std.specs.Prelude.{IsOk}
 use Rattle.pack_files.specs.declared.filter.Filter.{Filter}
 use Rattle.search_paths.proofs.Filters.{filters_before, filters_own}
 use Rattle.search_paths.proofs.AddedFolder.{told_now, folders_told, folders_before, folders_own, directories_before, directories_own, front_or_before, few_own, few_in_front, as_before, as_before_where, mounted_told}
+use Rattle.search_paths.proofs.PackCalls.{asks_put}
 use Rattle.search_paths.proofs.path.Paths.mount.Goals as goal
 
 pub invariant_of-self : goal.invariant_of-self
@@ -101,3 +102,16 @@ returns-in-Err-clause-same g c =
     let now = told_now files held c.push.new.self.items c.read_mounts-read.new.folder c.in-Ok-push.ensures.items in
     let before = folders_told files held (length held) mounts refl c.self.invariant.inside in
     rw (← c.self.view_is) (as_before (map files held) (files c.read_mounts-read.new.folder) (map files c.push.new.self.items) mounts mounts now refl before)
+
+pub returns-in-Ok-read-clause-kept : goal.returns-in-Ok-read-clause-kept
+returns-in-Ok-read-clause-kept g c =
+    let own = c.in-Ok-read.own.items in
+    rw (← c.self.view_is) (inr (record {
+      now = c.read_mounts-read.new.folder;
+      last = c.in-Ok-push.ensures.items;
+      told = c.in-Ok-read.ensures.same;
+      fault_count = c.in-Ok-read.ensures.faults;
+      asks = asks_put g.F.Folder.files g.F.Folder.folder_calls c.args.folder c.read_mounts-read.new.folder c.put_in_front.result c.put_in_front.new.mounts.items own c.self.inside.mounts.items
+          c.in-Ok-read.ensures.asks (few_own c.len.result own c.in-Ok-read.ensures.rows) c.put_in_front.ensures.front c.put_in_front.ensures.error;
+      caused = search rules;
+    }))
