@@ -1,5 +1,5 @@
 -- How a run ends.
-use Rattle.std.specs.Prelude.{◌≡◌, ◌↔◌, ◌<◌, ◌≤◌, ◌+◌, ◌-◌, ◌*◌, ◌⊎◌, ◌++◌, ◌∷◌, ℕ, List, [], length, take, drop, map, slice_get, slice_index, ⊤, true, false, Option, Some, None, Result, Ok, Err, option_map, IfSome, IfOk, IsOk, IsOkAnd, IsErr, codes, decimal}
+use Rattle.std.specs.Prelude.{◌≡◌, ◌↔◌, ◌<◌, ◌≤◌, ◌+◌, ◌-◌, ◌*◌, ◌⊎◌, ◌++◌, ◌∷◌, ℕ, List, [], length, take, drop, map, slice_get, slice_index, ⊤, Bool, true, false, ◌&&◌, if◌then◌else◌, Option, Some, None, Result, Ok, Err, option_map, IfSome, IfOk, IsOk, IsOkAnd, IsErr, codes, decimal}
 use Rattle.outside_io.specs.Causes.{Rose}
 use Rattle.outside_io.specs.Files.{File}
 use Rattle.outside_io.specs.Streams.{Adds, Took}
@@ -59,6 +59,18 @@ plain_text status = []
 abbrev pub status_text : {F : Type 0} → Status F → List ℕ
 status_text (BadPack folder pack fault) = bad_pack_text folder pack fault
 status_text status = plain_text status
+
+-- whether a reply may have been put in a run that ended so
+abbrev pub may_have_put : {F : Type 0} → Status F → Bool
+may_have_put (Usage word) = false
+may_have_put TooSmall = false
+may_have_put (BadPack folder pack fault) = false
+may_have_put status = true
+
+-- The status that is told of a run, where `lost` says that the sink lost some of what was put: that is a fault of a put, however
+-- the run ended.
+abbrev pub status_told : {F : Type 0} → Status F → (lost : Bool) → Status F
+status_told status lost = if lost && may_have_put status then WriteFault else status
 
 -- the word of a faulty command line
 abbrev pub usage_of : {F : Type 0} → Status F → Option ℕ

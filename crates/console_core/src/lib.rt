@@ -7,7 +7,7 @@ mod status;
 mod top;
 
 pub use console_session::{Session, StepEnd};
-pub use status::{Status, exit_code, status_line};
+pub use status::{Status, exit_code, status_line, status_told};
 pub use top::quake_main;
 
 #[cfg(test)]

@@ -1,6 +1,6 @@
 // How a run ends.
 ghost use Rattle.std.specs.Prelude.{◌≡◌, ◌≤◌, ◌++◌, length};
-ghost use Rattle.console_core.specs.Ends.{code_of, status_text, plain_text, fault_text, bad_pack_text};
+ghost use Rattle.console_core.specs.Ends.{code_of, status_text, plain_text, fault_text, bad_pack_text, may_have_put, status_told};
 
 use arrayvec::ArrayString;
 use itoa::Buffer;
@@ -38,6 +38,27 @@ pub enum Status<F: Folder = Box<dyn Folder>> {
     WriteFault,
     /// The script has more than 1,048,576 bytes. The lines that ended before the byte past these were run.
     ScriptTooLong,
+}
+
+// Whether a reply may have been put.
+fn may_have_put<F: Folder>(status: &Status<F>) -> bool
+    ensures { result ≡ may_have_put status.now }
+{
+    !matches!(
+        status,
+        Status::Usage { .. } | Status::TooSmall | Status::BadPack { .. }
+    )
+}
+
+/// The status that is told of a run. Where `lost` says that the sink lost some of what was put, as at its last flush, that is
+/// `WriteFault` in place of each status after which a reply may have been put; a folder is dropped then.
+pub fn status_told<F: Folder>(status: Status<F>, lost: bool) -> Status<F>
+    ensures { result ≡ status_told status lost }
+{
+    if lost && may_have_put(&status) {
+        return Status::WriteFault;
+    }
+    status
 }
 
 /// The exit code of a run that ended so.

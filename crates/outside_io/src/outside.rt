@@ -75,7 +75,8 @@ pub trait Source {
 
 /// A place to put bytes.
 pub trait Sink {
-    /// The bytes that were put, where the sink tells them.
+    /// The bytes that were put, where the sink tells them. Of a sink that holds back they are those that it took, whether they
+    /// were handed on or not: where a flush fails, what stands behind the sink is a front of them.
     ghost got: { Self → Option (List ℕ) };
 
     /// How many puts have failed. The count stands still at the last value of a `u64`.

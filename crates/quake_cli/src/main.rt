@@ -10,7 +10,7 @@ ghost use Rattle.quake_cli.specs.EndLines.{end_line};
 mod folder;
 mod streams;
 
-use console_core::{Status, exit_code, quake_main, status_line};
+use console_core::{Status, exit_code, quake_main, status_line, status_told};
 use folder::DirFolder;
 use outside_io::{Folder, Sink};
 use std::io::{ErrorKind, Write};
@@ -74,8 +74,5 @@ fn main(rt: HostRuntime) -> ExitCode {
     let status = quake_main(alloc, &words, folders, &mut script, &mut out);
     // What is held back is written. Where that fails, not all that was put has come out.
     out.flush();
-    if out.has_failed() {
-        return report(&rt, &Status::WriteFault);
-    }
-    report(&rt, &status)
+    report(&rt, &status_told(status, out.has_failed()))
 }
