@@ -11,24 +11,15 @@ use Rattle.mem_model.specs.Apart.{NoneIs}
 use Rattle.zone_values.specs.Held.{AreHeld, OthersStay}
 use Rattle.zone_values.specs.Values.{value_at, replace_value}
 use Rattle.zone_values.proofs.ValueLaws.{Laid-replace_value, zone_bytes-replace_value, value_at-replace_value, replace_value-refusal, size-replace_value, low-replace_value, high-replace_value, temp-replace_value}
-use Rattle.zone_values.proofs.HeldLaws.{value_at-kept, AreHeld-same, AreHeld-kept, AreHeld-beside, AreHeld-replace_value, AreHeld-turned}
+use Rattle.zone_values.proofs.HeldLaws.{value_at-kept, AreHeld-same, AreHeld-replace_value, AreHeld-turned}
 use Rattle.cvar_table.specs.Cvars.{Cvar, cvar_of, cvar_value, with_place, CvarSet, set_cvar, set_found, set_by, places_of, HoldsCvars}
 use Rattle.mem_model.proofs.Untouched.{zone_bytes-same}
 use Rattle.cvar_table.proofs.Listing.{some-place}
 use Rattle.cvar_table.proofs.Setting.{placed_at, cvar_of-with_place, cvar_of-elsewhere, is_some-with_place, none_of_cvar, cvars_apart}
 
--- Cvars stay held where each used block keeps its bytes,
-pub HoldsCvars-kept : (m n : Memory) (cvars : List Cvar) → ((place : ℕ) (bytes : List ℕ) → zone_bytes m place ≡ Some bytes → zone_bytes n place ≡ Some bytes) → HoldsCvars m cvars → HoldsCvars n cvars
-HoldsCvars-kept m n cvars kept holds = AreHeld-kept m n (places_of cvars) kept holds
-
--- where the zone is the same,
+-- Cvars stay held where the zone is the same.
 pub HoldsCvars-same : (m n : Memory) (cvars : List Cvar) → n.zone ≡ m.zone → HoldsCvars m cvars → HoldsCvars n cvars
 HoldsCvars-same m n cvars same holds = AreHeld-same m n (places_of cvars) same holds
-
--- and where all but one used block keep their bytes, and that one is none of theirs.
-pub HoldsCvars-beside : (m n : Memory) (place : ℕ) (cvars : List Cvar) → ((other : ℕ) (bytes : List ℕ) → other ≢ place → zone_bytes m other ≡ Some bytes → zone_bytes n other ≡ Some bytes) →
-    NoneIs place (places_of cvars) → HoldsCvars m cvars → HoldsCvars n cvars
-HoldsCvars-beside m n place cvars kept none holds = AreHeld-beside m n place (places_of cvars) kept none holds
 
 -- what setting gives where the cvar and its new place are known
 set_given : (m : Memory) (cvars : List Cvar) (name value : List ℕ) (cvar : Cvar) (answer : Result ℕ ℕ) → cvar_of cvars name ≡ Some cvar → (replace_value m cvar.place value).answer ≡ answer →
@@ -112,15 +103,6 @@ set_cvar-refusal m cvars name value told =
     (λ cvar asked h k e. (let same : asked ≡ told = cc in let refusal = replace_value-refusal m value cvar.place asked k in (sym same ∙ refusal.0, refusal.1, refl)))
     (λ cvar place h k e. absurd (cc))
 
--- `false` is the answer exactly where no cvar has the name, and then nothing changes.
-pub set_cvar-false : (m : Memory) (cvars : List Cvar) (name value : List ℕ) → (set_cvar m cvars name value).given.answer ≡ Ok false →
-    (cvar_of cvars name ≡ None) × ((set_cvar m cvars name value).given.after ≡ m) × ((set_cvar m cvars name value).cvars ≡ cvars)
-set_cvar-false m cvars name value =
-    set_cases (λ s. s.given.answer ≡ Ok false → (cvar_of cvars name ≡ None) × (s.given.after ≡ m) × (s.cvars ≡ cvars)) m cvars name value
-    (λ h e. (h, refl, refl))
-    (λ cvar told h k e. absurd (cc))
-    (λ cvar place h k e. absurd (cc))
-
 -- No name comes or goes.
 pub is_some-set_cvar : (m : Memory) (cvars : List Cvar) (name value other : List ℕ) → is_some (cvar_of (set_cvar m cvars name value).cvars other) ≡ is_some (cvar_of cvars other)
 is_some-set_cvar m cvars name value other =
@@ -159,15 +141,10 @@ value_kept m n cvars name kept holds = by (cvar_of cvars name) refl where
   by None h = value_of_none n cvars name h ∙ sym (value_of_none m cvars name h)
   by (Some cvar) h = value_of_cvar n cvars name cvar h ∙ value_at-kept m n cvar.place (some-cvar m cvars name cvar holds h) (λ bytes there. kept cvar bytes h there) ∙ sym (value_of_cvar m cvars name cvar h)
 
--- as each used block does,
+-- as each used block does.
 pub cvar_value-kept : (m n : Memory) (cvars : List Cvar) (name : List ℕ) → ((place : ℕ) (bytes : List ℕ) → zone_bytes m place ≡ Some bytes → zone_bytes n place ≡ Some bytes) → HoldsCvars m cvars →
     cvar_value n cvars name ≡ cvar_value m cvars name
 cvar_value-kept m n cvars name kept holds = value_kept m n cvars name (λ cvar bytes h there. kept cvar.place bytes there) holds
-
--- or each but one that is none of theirs.
-pub cvar_value-beside : (m n : Memory) (place : ℕ) (cvars : List Cvar) (name : List ℕ) → ((other : ℕ) (bytes : List ℕ) → other ≢ place → zone_bytes m other ≡ Some bytes → zone_bytes n other ≡ Some bytes) →
-    NoneIs place (places_of cvars) → HoldsCvars m cvars → cvar_value n cvars name ≡ cvar_value m cvars name
-cvar_value-beside m n place cvars name kept none holds = value_kept m n cvars name (λ cvar bytes h there. kept cvar.place bytes (none_of_cvar place cvars name cvar none h) there) holds
 
 -- Each other cvar keeps its value.
 pub cvar_value-set_other : (m : Memory) (cvars : List Cvar) (name value other : List ℕ) → Laid m → HoldsCvars m cvars → other ≢ name →

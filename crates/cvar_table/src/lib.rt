@@ -134,6 +134,8 @@ impl Cvars {
             self.new ≡ (set_cvar (M.state store.old) self.old name.now value.now).cvars) }
         ensures stays { OnErr result (self.new ≡ self.old) }
 
+        ensures found { IfOk result (λ found. found ≡ is_some (cvar_of self.old name.now)) }
+
         // What was set is read back, and all else as before.
         ensures read_back { result ≡ Ok true → cvar_value (M.state store.new) self.new name.now ≡ Some value.now }
         ensures others_read { result ≡ Ok true →

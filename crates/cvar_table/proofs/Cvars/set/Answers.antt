@@ -1,4 +1,7 @@
-use Rattle.std.proofs.Common.{sym, arith}
+use Rattle.std.proofs.Common.{Option, ap, sym, arith}
+use Rattle.std.specs.Prelude.{is_some}
+use Rattle.cvar_table.specs.Cvars.{Cvar}
+use Rattle.cvar_table.proofs.Listing.{cvar_found, cvar_missing}
 use Rattle.cvar_table.proofs.Calls.{set_done, set_undone, set_nothing, holds_done, holds_undone, stay_done, stay_undone, read_done, others_done, read_undone}
 use Rattle.cvar_table.proofs.Cvars.set.Goals as goal
 
@@ -58,3 +61,11 @@ pub returns-in-Err-clause-unset_read : goal.returns-in-Err-clause-unset_read
 returns-in-Err-clause-unset_read g c = λ unset.
     let undone = set_undone _ _ c.self.inside.places c.args.self.now c.args.name.now c.args.value.now c.in-Some.at (record { 0 = 0 }) (omega arith) c.self.view_is (sym c.in-Some.ensures) _ c.in-Err.error c.in-Err.ensures.gives in
     read_undone _ _ c.args.self.now c.args.name.now c.args.value.now _ c.in-Err.error c.requires.holds undone.0
+
+pub returns-in-Ok-clause-found : goal.returns-in-Ok-clause-found
+returns-in-Ok-clause-found g c =
+    sym (ap (λ (o : Option Cvar). is_some o) (cvar_found c.self.inside.places c.args.name.now (omega arith) c.args.self.now c.self.view_is c.in-Some.at (record { 0 = 0 }) (sym c.in-Some.ensures)).1)
+
+pub returns-in-None-clause-found : goal.returns-in-None-clause-found
+returns-in-None-clause-found g c =
+    sym (ap (λ (o : Option Cvar). is_some o) (cvar_missing c.self.inside.places c.args.name.now c.args.self.now c.self.view_is (sym c.in-None.ensures)))
