@@ -1,5 +1,5 @@
 -- The rows of the aliases, along the chain.
-use Rattle.std.proofs.Common.{◌≡◌, ℕ, suc, List, [], ◌∷◌, map, drop, Option, Some, None, sym, ap, ◌∙◌}
+use Rattle.std.proofs.Common.{◌≡◌, ℕ, suc, List, [], ◌∷◌, map, Option, Some, None, ap, ◌∙◌}
 use Rattle.std.specs.Prelude.{slice_get}
 use Rattle.std.specs.Option.{unwrap_or}
 use Rattle.mem_model.specs.Memory.{Memory}
@@ -22,9 +22,6 @@ module _ (m : Memory) (place next : Option ℕ) (at : ℕ) (a : Alias) (here : p
   row_first n value none there =
       ap (slice_get (alias_texts m place)) none ∙ ap (λ (texts : List AliasText). slice_get texts 0) texts_more
       ∙ ap (λ (o : Option (List ℕ)). Some (record { name = a.name; value = unwrap_or o [] })) there
-
-  pub texts_behind : alias_texts m next ≡ drop 1 (alias_texts m place)
-  texts_behind = ap (drop 1) (sym texts_more)
 
 pub row_none : (m : Memory) (place : Option ℕ) (n : ℕ) → place ≡ None → slice_get (alias_texts m place) n ≡ None
 row_none m place n none = ap (λ (texts : List AliasText). slice_get texts n) (texts_none m place none)

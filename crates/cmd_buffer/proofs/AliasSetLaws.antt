@@ -249,5 +249,10 @@ reads_told m n before now name value frugal (Err alias_error.LongName) laid h te
 reads_told m n before now name value frugal (Err (alias_error.Zone (zone_error.Full asked))) laid h text value_text set = (tt, texts_kept m n before now name value (Full asked) laid h set)
 reads_told m n before now name value frugal (Err (alias_error.Zone zone_error.OutOfMemory)) laid h text value_text out = (tt, texts_out m n before now frugal laid h out)
 
+-- A call that told of a long name was given one.
+pub long_told : (m n : Memory) (before now : Option ℕ) (name value : List ℕ) (frugal : Bool) (result : Result (Unit {0}) AliasError) → GivesSet (set_alias m before name value) frugal m before (set_told result) n now → result ≡ Err alias_error.LongName → 31 < length name
+long_told m n before now name value frugal result set long =
+    long_only m before name value (subst (λ (r : Result (Unit {0}) AliasError). GivesSet (set_alias m before name value) frugal m before (set_told r) n now) long set).answer
+
 -- for callers: `#[tactic(auto, using(cmd_buffer::proofs::AliasSetLaws::alias_laws))]`
-pub ruleset alias_laws = (holds_none, aliases_none, stays_set_alias, Laid-set_alias, set_alias-long, texts-set_alias, texts-given_back, names-with_value, value-texts, reads_told)
+pub ruleset alias_laws = (holds_none, aliases_none, stays_set_alias, Laid-set_alias, set_alias-long, texts-set_alias, texts-given_back, names-with_value, set_alias-full, value-texts, reads_told)

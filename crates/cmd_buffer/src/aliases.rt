@@ -1,6 +1,6 @@
 // The aliases of the console.
 ghost use Rattle.std.specs.Prelude.{◌≡◌, ◌<◌, ◌≤◌, ◌^◌, ◌∷◌, Some, None, IsSome, length, drop, find, slice_get, bytes_eq};
-ghost use Rattle.std.specs.Prelude.{MatchOption, IfSome, OnOk, OnErr};
+ghost use Rattle.std.specs.Prelude.{◌↔◌, Err, MatchOption, IfSome, OnOk, OnErr};
 ghost use Rattle.std.specs.Option.{option_map};
 ghost use Rattle.mem_model.specs.Zone.{zone_bytes};
 ghost use Rattle.mem_model.specs.Hunk.{over};
@@ -96,6 +96,8 @@ impl Aliases {
         requires texts { IsText name.now × IsText value.now }
         requires short { length value.now < 2 ^ 62 }
         ensures gives { GivesSet (set_alias (M.state store.old) self.old name.now value.now) M.frugal (M.state store.old) self.old (set_told result) (M.state store.new) self.new }
+
+        ensures long_name { (result ≡ Err AliasError.LongName) ↔ (31 < length name.now) }
 
         // What was set is read back, and all else as before.
         ensures read_back { OnOk result (IsReadBack (alias_texts (M.state store.old) self.old)

@@ -3,7 +3,7 @@ use Rattle.mem_model.specs.Zone.{with_zone_bytes}
 use Rattle.mem_model.proofs.ZoneLaying.{Laid-with_zone_bytes}
 use Rattle.std.specs.Prelude.{OnOk, OnErr}
 use Rattle.cmd_buffer.specs.Aliases.{changed, alias_texts, IsReadBack}
-use Rattle.cmd_buffer.proofs.AliasSetLaws.{reads_told}
+use Rattle.cmd_buffer.proofs.AliasSetLaws.{reads_told, long_told}
 use Rattle.cmd_buffer.specs.AliasCalls.{IsSet}
 use Rattle.cmd_buffer.specs.AliasRecords.{alias_in}
 use Rattle.cmd_buffer.proofs.AliasAdding.{Stays}
@@ -126,3 +126,19 @@ returns-in-None-clause-read_back g c =
 pub returns-in-None-clause-unset_read : goal.returns-in-None-clause-unset_read
 returns-in-None-clause-unset_read g c =
     (reads_told _ _ c.args.self.now _ c.args.name.now c.args.value.now _ c.add.result c.add.ensures.was_laid c.requires.holds c.requires.texts.0 c.requires.texts.1 (returns-in-None-clause-gives g c)).1
+
+-- a name of 31 bytes at most is not told to be long
+pub returns-in_err-new-in-Some-clause-long_name : goal.returns-in_err-new-in-Some-clause-long_name
+returns-in_err-new-in-Some-clause-long_name g c = (
+  long_told _ _ c.args.self.now c.args.self.now c.args.name.now c.args.value.now _ c.from_residual.result (returns-in_err-new-in-Some-clause-gives g c),
+  λ long. absurd (omega arith),
+)
+
+pub returns-in_ok-new-in-Some-clause-long_name : goal.returns-in_ok-new-in-Some-clause-long_name
+returns-in_ok-new-in-Some-clause-long_name g c = (λ told. absurd (cc), λ long. absurd (omega arith))
+
+pub returns-in-None-clause-long_name : goal.returns-in-None-clause-long_name
+returns-in-None-clause-long_name g c = (
+  long_told _ _ c.args.self.now _ c.args.name.now c.args.value.now _ c.add.result (returns-in-None-clause-gives g c),
+  λ long. absurd (omega arith),
+)
