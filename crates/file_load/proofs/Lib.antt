@@ -1,4 +1,5 @@
 mod Examples
+pub mod Asking
 pub mod Finding
 pub mod Loading
 pub mod Lows

@@ -1,10 +1,11 @@
 // Finding the file of a load, and reading it.
-ghost use Rattle.std.specs.Prelude.{◌≡◌, ◌+◌, ◌<◌, ◌≤◌, ◌^◌, ◌++◌, Some, drop, length, option_map, IfErr, IfOk};
-ghost use Rattle.std.specs.Prelude.{IfSome, OnOk};
-ghost use Rattle.search_paths.specs.Answers.{placed, HasFile, IsFileRef};
-ghost use Rattle.search_paths.specs.Counts.{NoneFalls};
+ghost use Rattle.std.specs.Prelude.{◌≡◌, ◌+◌, ◌<◌, ◌≤◌, ◌^◌, ◌∷◌, ◌++◌, [], Some, Ok, drop, length, slice_get, option_map};
+ghost use Rattle.std.specs.Prelude.{IfErr, IfOk, IfSome, OnOk};
+ghost use Rattle.search_paths.specs.Answers.{placed, HasFile, IsFileRef, AsksInOrder, folder_in};
+ghost use Rattle.search_paths.specs.Counts.{NoneFalls, CallsOnce};
 ghost use Rattle.search_paths.specs.Mounts.{find_told};
 ghost use Rattle.search_paths.specs.Path.{rows_of, told_mounts, mount_at, counts_of, SamePath};
+ghost use Rattle.file_load.specs.Calls.{AsksFor};
 ghost use Rattle.file_load.specs.Loads.{sought, IsLoadFault};
 ghost use Rattle.file_load.specs.Files.{Finds, IsSought, IsUnreadable};
 
@@ -25,6 +26,10 @@ pub(crate) fn find_whole<F: Folder>(
     ensures sized { IfOk result (IsFileRef (length (rows_of paths.old))) }
     ensures inside { IfOk result (λ file. file.offset + file.length ≤ file.whole) }
     ensures early { IfErr result IsSought }
+    ensures asked { IfOk result (λ file.
+        AsksInOrder F.folder_calls (rows_of paths.old) paths.old.folders paths.new.folders (Ok (Some file))) }
+    ensures alone { IfErr result (λ error. AsksFor F.folder_calls name.now (told_mounts F.files paths.old)
+        (rows_of paths.old) paths.old.folders paths.new.folders (Some error)) }
     ensures same { SamePath F.files paths.old paths.new }
     ensures faults { NoneFalls (counts_of F.folder_faults paths.old) (counts_of F.folder_faults paths.new) }
     ensures calls { NoneFalls (counts_of F.folder_calls paths.old) (counts_of F.folder_calls paths.new) }
@@ -66,6 +71,8 @@ pub(crate) fn read_whole<F: Folder>(
         → IfOk (sought found) (λ bytes. into.new ≡ bytes ++ drop file.now.length into.old))) }
     ensures rest { drop file.now.length into.new ≡ drop file.now.length into.old }
     ensures late { IfErr result IsUnreadable }
+    ensures asked { IfSome (slice_get (rows_of paths.old) file.now.mount) (λ mount.
+        CallsOnce F.folder_calls (folder_in mount ∷ []) paths.old.folders paths.new.folders) }
     ensures same { SamePath F.files paths.old paths.new }
     ensures faults { NoneFalls (counts_of F.folder_faults paths.old) (counts_of F.folder_faults paths.new) }
     ensures calls { NoneFalls (counts_of F.folder_calls paths.old) (counts_of F.folder_calls paths.new) }

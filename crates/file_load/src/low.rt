@@ -1,9 +1,11 @@
 // Loading a file into a low block.
 ghost use Rattle.std.specs.Prelude.{◌≡◌, ◌≤◌, length, slice_get, Some, IfErr, IfOk, IfSome, IsSomeAnd, IsErrOf, false};
+ghost use Rattle.std.specs.Result.{result_err};
 ghost use Rattle.mem_model.specs.Laid.{Laid};
 ghost use Rattle.mem_model.specs.Hunk.{low_bytes};
 ghost use Rattle.search_paths.specs.Counts.{NoneFalls};
-ghost use Rattle.search_paths.specs.Path.{told_mounts, counts_of, SamePath};
+ghost use Rattle.search_paths.specs.Path.{rows_of, told_mounts, counts_of, SamePath};
+ghost use Rattle.file_load.specs.Calls.{AsksFor};
 ghost use Rattle.file_load.specs.Loads.{load_low, Loads, IsLoadFault};
 ghost use Rattle.file_load.specs.Leaves.{LeavesLow, IsEarly};
 
@@ -19,6 +21,8 @@ use search_paths::Paths;
 ///
 /// After `NoRoom` the store is as the refused allocation leaves it, and after a fault at the reading the block stands, with
 /// any bytes in it. After every other error the store is as before.
+///
+/// The folders are asked for the file as `Paths::find` asks them, and the one that has it once more where it is read.
 pub fn load_low<M: Store, F: Folder>(
     store: &mut M,
     paths: &mut Paths<F>,
@@ -42,6 +46,8 @@ pub fn load_low<M: Store, F: Folder>(
 
     // The path.
     ensures same { SamePath F.files paths.old paths.new }
+    ensures asked { AsksFor F.folder_calls name.now (told_mounts F.files paths.old) (rows_of paths.old)
+        paths.old.folders paths.new.folders (result_err result) }
     ensures faults { NoneFalls (counts_of F.folder_faults paths.old) (counts_of F.folder_faults paths.new) }
     ensures calls { NoneFalls (counts_of F.folder_calls paths.old) (counts_of F.folder_calls paths.new) }
     ensures fault { IfErr result (IsLoadFault (counts_of F.folder_faults paths.old) (counts_of F.folder_faults paths.new)) }

@@ -5,6 +5,7 @@ use Rattle.mem_model.proofs.Laws.{low_bytes-written}
 use Rattle.mem_model.proofs.Laying.{Laid-with_low_bytes}
 use Rattle.search_paths.specs.Mounts.{find_told}
 use Rattle.search_paths.specs.Path.{told_mounts}
+use Rattle.file_load.proofs.Asking.{asks_refused, asks_unread, asks_read}
 use Rattle.file_load.proofs.Loading.{zero_behind, room_in}
 use Rattle.file_load.proofs.Lows.{fresh, are_zeros, zone_given, zone_written, leaves_early, leaves_refused, leaves_made, leaves_unread, early_low, refused_low, unread_low, loaded_low}
 use Rattle.file_load.proofs.low.load_low.Goals as goal
@@ -94,3 +95,19 @@ returns-clause-laid g c = λ before. rw g.met.M.Store.low_writes (Laid-with_low_
 pub returns-clause-zone : goal.returns-clause-zone
 returns-clause-zone g c =
     zone_written _ _ _ (c.in_ok-file.file.length + 1) _ c.base.result.now _ g.M.Store.frugal (room_answer c.low_alloc.result) c.low_alloc.ensures.gives (g.met.M.Store.low_writes _ _ _)
+
+pub returns-in_err-place-clause-asked : goal.returns-in_err-place-clause-asked
+returns-in_err-place-clause-asked g c =
+    let p = err_from_is_err_and c.from_residual-in_err-place.result c.from_residual-in_err-place.ensures.1 in
+    rw (p.1, p.2) (asks_refused g.F.Folder.folder_calls c.args.name.now _ _ c.args.paths.now.folders _ c.in_ok-file.file c.in_ok-file.ensures.first c.in_ok-file.ensures.asked c.in_err-place.field-0.0)
+
+pub returns-in_err-read_whole-clause-asked : goal.returns-in_err-read_whole-clause-asked
+returns-in_err-read_whole-clause-asked g c =
+    let p = err_from_is_err_and c.from_residual-in_err-read_whole.result c.from_residual-in_err-read_whole.ensures.1 in
+    rw (p.1, p.2) (asks_unread g.F.Folder.folder_calls c.args.name.now _ _ c.args.paths.now.folders _ c.in_ok-file.file c.in_ok-file.ensures.first c.in_ok-file.ensures.asked _ c.in_ok-file.ensures.sized.mount
+    (rw c.in_ok-file.ensures.same.rows at c.in_err-read_whole.ensures.asked) c.in_err-read_whole.field-0.0 c.in_err-read_whole.ensures.late)
+
+pub returns-clause-asked : goal.returns-clause-asked
+returns-clause-asked g c =
+    asks_read g.F.Folder.folder_calls c.args.name.now _ _ c.args.paths.now.folders _ c.in_ok-file.file c.in_ok-file.ensures.first c.in_ok-file.ensures.asked _ c.in_ok-file.ensures.sized.mount
+    (rw c.in_ok-file.ensures.same.rows at c.in_ok-read_whole.ensures.asked)

@@ -5,6 +5,7 @@ use Rattle.mem_model.proofs.Laws.{temp_bytes-written}
 use Rattle.mem_model.proofs.Newest.{Laid-with_temp_bytes}
 use Rattle.search_paths.specs.Mounts.{find_told}
 use Rattle.search_paths.specs.Path.{told_mounts}
+use Rattle.file_load.proofs.Asking.{asks_refused, asks_unread, asks_read}
 use Rattle.file_load.proofs.Loading.{zero_behind, room_in}
 use Rattle.file_load.proofs.Temps.{fresh, are_zeros, zone_given, zone_written, leaves_early, leaves_refused, leaves_made, leaves_unread, early_temp, refused_temp, unread_temp, loaded_temp}
 use Rattle.file_load.proofs.temp.load_temp.Goals as goal
@@ -87,3 +88,19 @@ returns-clause-laid g c = λ before. rw g.met.M.Store.temp_writes (Laid-with_tem
 pub returns-clause-zone : goal.returns-clause-zone
 returns-clause-zone g c =
     zone_written _ _ _ (c.in_ok-file.file.length + 1) _ g.M.Store.frugal (room_answer c.temp_alloc.result) c.temp_alloc.ensures.gives (g.met.M.Store.temp_writes _ _)
+
+pub returns-in_err-_place-clause-asked : goal.returns-in_err-_place-clause-asked
+returns-in_err-_place-clause-asked g c =
+    let p = err_from_is_err_and c.from_residual-in_err-_place.result c.from_residual-in_err-_place.ensures.1 in
+    rw (p.1, p.2) (asks_refused g.F.Folder.folder_calls c.args.name.now _ _ c.args.paths.now.folders _ c.in_ok-file.file c.in_ok-file.ensures.first c.in_ok-file.ensures.asked c.in_err-_place.field-0.0)
+
+pub returns-in_err-read_whole-clause-asked : goal.returns-in_err-read_whole-clause-asked
+returns-in_err-read_whole-clause-asked g c =
+    let p = err_from_is_err_and c.from_residual-in_err-read_whole.result c.from_residual-in_err-read_whole.ensures.1 in
+    rw (p.1, p.2) (asks_unread g.F.Folder.folder_calls c.args.name.now _ _ c.args.paths.now.folders _ c.in_ok-file.file c.in_ok-file.ensures.first c.in_ok-file.ensures.asked _ c.in_ok-file.ensures.sized.mount
+    (rw c.in_ok-file.ensures.same.rows at c.in_err-read_whole.ensures.asked) c.in_err-read_whole.field-0.0 c.in_err-read_whole.ensures.late)
+
+pub returns-clause-asked : goal.returns-clause-asked
+returns-clause-asked g c =
+    asks_read g.F.Folder.folder_calls c.args.name.now _ _ c.args.paths.now.folders _ c.in_ok-file.file c.in_ok-file.ensures.first c.in_ok-file.ensures.asked _ c.in_ok-file.ensures.sized.mount
+    (rw c.in_ok-file.ensures.same.rows at c.in_ok-read_whole.ensures.asked)
