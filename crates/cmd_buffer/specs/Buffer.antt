@@ -1,16 +1,13 @@
 -- Commands, cut from the front of a buffer.
 use Rattle.std.specs.Prelude.{◌≡◌, ℕ, ◌+◌, ◌%◌, Bool, true, false, ◌&&◌, ◌||◌, ◌==◌, nat_le, if◌then◌else◌, List, [], ◌∷◌, ◌++◌, length, count_by, Option, Some, None}
 use Rattle.base_fields.specs.Texts.{until_zero}
+use Rattle.cmd_buffer.specs.declared.buffer.TheConstants.{SPACE, LONGEST}
 use Rattle.cmd_buffer.specs.declared.buffer.Taken.{Taken}
 use Rattle.cmd_buffer.specs.declared.buffer.Taken.TheVariants.{Text, TooLong}
 
--- how many bytes a buffer holds
-abbrev pub space : ℕ
-space = 8191
-
 -- a text has room beside what a buffer has
 abbrev pub fits_in : List ℕ → List ℕ → Bool
-fits_in text buffer = nat_le (length buffer + length text) space
+fits_in text buffer = nat_le (length buffer + length text) SPACE
 
 -- what an input line adds to the buffer: it up to its first zero byte, and a newline
 abbrev pub input : List ℕ → List ℕ
@@ -60,7 +57,7 @@ pub record IsCut (buffer command rest : List ℕ) : Type 0 where
 
 -- the text of a command that isn't too long
 abbrev pub short_command : List ℕ → Option (List ℕ)
-short_command text = if nat_le (length text) 1023 then Some text else None
+short_command text = if nat_le (length text) LONGEST then Some text else None
 
 -- the first command, where there is one
 abbrev pub first_command : List ℕ → Option (Option (List ℕ))

@@ -2,20 +2,21 @@
 ghost use Rattle.std.specs.Prelude.{◌≡◌, ◌↔◌, ◌<◌, ◌≤◌, ◌+◌, ◌-◌, ◌++◌, ◌==◌, ◌&&◌, ◌||◌, List, [], length, take, drop, option_map, OnOk, OnErr, IsErr, is_ok, if◌then◌else◌};
 ghost use Rattle.arrayvec.specs.ArrayVec.{array_vec_len};
 ghost use Rattle.mem_model.specs.Laid.{IsText};
+ghost use Rattle.cmd_buffer.specs.declared.buffer.TheConstants.{SPACE};
 ghost use Rattle.cmd_buffer.specs.Buffer.{fits_in, input, cut, IsCut, first_command, taken_text, short_command};
 
 use arrayvec::ArrayVec;
 use base_fields::before_zero;
 use std::marker::Model;
 
-// How many bytes a buffer holds.
-const SPACE: usize = 8191;
+/// How many bytes a buffer holds.
+pub const SPACE: usize = 8191;
 
-// How many bytes a command has at most.
-const LONGEST: usize = 1023;
+/// How many bytes a command has at most.
+pub const LONGEST: usize = 1023;
 
 /// The bytes of a command that was taken from a buffer, without the byte that ended it.
-pub type CommandText = ArrayVec<u8, 1023>;
+pub type CommandText = ArrayVec<u8, LONGEST>;
 
 /// What was taken from a buffer.
 #[derive(Clone, Copy, Debug, PartialEq, Eq)]
@@ -34,7 +35,7 @@ pub struct Overflow;
 /// still to be taken.
 #[derive(Debug, Drop)]
 pub struct CmdBuffer {
-    bytes: ArrayVec<u8, 8191>,
+    bytes: ArrayVec<u8, SPACE>,
     // how many of the bytes were taken
     taken: usize,
 }
@@ -63,7 +64,7 @@ impl CmdBuffer {
 
     /// Adds the text at the end, or changes nothing where more than 8191 bytes would be used.
     pub fn add(&mut self, text: &[u8]) -> Result<(), Overflow>
-        ensures full { IsErr result ↔ (8191 < length self.old + length text.now) }
+        ensures full { IsErr result ↔ (SPACE < length self.old + length text.now) }
         ensures added { OnOk result (self.new ≡ self.old ++ text.now) }
         ensures same { OnErr result (self.new ≡ self.old) }
     {
@@ -92,7 +93,7 @@ impl CmdBuffer {
 
     /// Puts the text in front, or changes nothing where more than 8191 bytes would be used.
     pub fn insert(&mut self, text: &[u8]) -> Result<(), Overflow>
-        ensures full { IsErr result ↔ (8191 < length self.old + length text.now) }
+        ensures full { IsErr result ↔ (SPACE < length self.old + length text.now) }
         ensures inserted { OnOk result (self.new ≡ text.now ++ self.old) }
         ensures same { OnErr result (self.new ≡ self.old) }
     {
@@ -134,7 +135,7 @@ impl CmdBuffer {
     /// How many bytes are to be taken.
     pub fn used(&self) -> usize
         ensures value { result ≡ length self.now }
-        ensures fits { result ≤ 8191 }
+        ensures fits { result ≤ SPACE }
     {
         self.bytes.len() - self.taken
     }
@@ -142,12 +143,12 @@ impl CmdBuffer {
 
 // Makes room for so many bytes at the end, and answers the place where the bytes from this place on begin then.
 // They are moved only where the room behind them is too small.
-fn make_room(bytes: &mut ArrayVec<u8, 8191>, place: usize, count: usize) -> usize
+fn make_room(bytes: &mut ArrayVec<u8, SPACE>, place: usize, count: usize) -> usize
     requires inside { place ≤ array_vec_len bytes.old }
-    requires fits { (array_vec_len bytes.old - place) + count ≤ 8191 }
+    requires fits { (array_vec_len bytes.old - place) + count ≤ SPACE }
     ensures kept { drop result bytes.new.items ≡ drop place bytes.old.items }
     ensures inside { result ≤ array_vec_len bytes.new }
-    ensures room { array_vec_len bytes.new + count ≤ 8191 }
+    ensures room { array_vec_len bytes.new + count ≤ SPACE }
 {
     if bytes.len() + count <= SPACE {
         return place;
@@ -157,7 +158,7 @@ fn make_room(bytes: &mut ArrayVec<u8, 8191>, place: usize, count: usize) -> usiz
 }
 
 // Drops the bytes before this place.
-fn drop_front(bytes: &mut ArrayVec<u8, 8191>, place: usize)
+fn drop_front(bytes: &mut ArrayVec<u8, SPACE>, place: usize)
     requires { place ≤ array_vec_len bytes.old }
     ensures { bytes.new.items ≡ drop place bytes.old.items }
 {
@@ -168,9 +169,9 @@ fn drop_front(bytes: &mut ArrayVec<u8, 8191>, place: usize)
 
 // Puts the text in front of the bytes from this place on, and answers the place where the text begins.
 // They are moved only where the room before them is too small.
-fn put_before(bytes: &mut ArrayVec<u8, 8191>, place: usize, text: &[u8]) -> usize
+fn put_before(bytes: &mut ArrayVec<u8, SPACE>, place: usize, text: &[u8]) -> usize
     requires inside { place ≤ array_vec_len bytes.old }
-    requires room { (array_vec_len bytes.old - place) + length text.now ≤ 8191 }
+    requires room { (array_vec_len bytes.old - place) + length text.now ≤ SPACE }
     ensures put { drop result bytes.new.items ≡ text.now ++ drop place bytes.old.items }
     ensures inside { result ≤ array_vec_len bytes.new }
 {

@@ -6,7 +6,7 @@ mod buffer;
 mod words;
 
 pub use aliases::{AliasError, Aliases};
-pub use buffer::{CmdBuffer, CommandText, Overflow, Taken};
+pub use buffer::{CmdBuffer, CommandText, LONGEST, Overflow, SPACE, Taken};
 pub use words::{Words, tokenize};
 
 #[cfg(test)]
