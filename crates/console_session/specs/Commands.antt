@@ -1,5 +1,6 @@
 -- The commands.
-use Rattle.std.specs.Prelude.{ℕ, Bool, ◌==◌, if◌then◌else◌, List, [], ◌∷◌, ◌++◌, length, drop, slice_index_or, Option, Some, None, Result, Ok, Err, codes, decimal}
+use Rattle.std.specs.Prelude.{ℕ, Bool, ◌==◌, if◌then◌else◌, List, [], ◌∷◌, ◌++◌, length}
+use Rattle.std.specs.Prelude.{drop, slice_index_or, Option, Some, None, Result, Ok, Err, codes, decimal}
 use Rattle.base_fields.specs.Names.{lawful_name, base_of}
 use Rattle.base_fields.specs.Numbers.{number_of}
 use Rattle.base_fields.specs.Texts.{until_zero}
@@ -13,7 +14,8 @@ use Rattle.mem_model.specs.Operations.{low_alloc, low_free, high_alloc, high_mar
 use Rattle.block_report.specs.Reports.{report_text}
 use Rattle.cmd_buffer.specs.Words.{words_of}
 use Rattle.cmd_buffer.specs.Buffer.{fits_in, cut, short_command}
-use Rattle.cmd_buffer.specs.Aliases.{AliasText, AliasSet, AliasRefusal, AliasRefusal.LongName, AliasRefusal.Full, alias_texts, alias_value, set_alias}
+use Rattle.cmd_buffer.specs.Aliases.{AliasText, AliasSet, AliasRefusal, AliasRefusal.LongName, AliasRefusal.Full}
+use Rattle.cmd_buffer.specs.Aliases.{alias_texts, alias_value, set_alias}
 use Rattle.cvar_table.specs.Cvars.{CvarSet, cvar_value, set_cvar}
 use Rattle.reply_pieces.specs.Pieces.{joined}
 use Rattle.console_session.specs.Verbs.{verb_of}
@@ -49,10 +51,11 @@ missing_text missing name = joined (missing ∷ name ∷ codes "\n" ∷ [])
 
 -- a file ends here, past the end of its pack
 abbrev pub beyond_text : List ℕ → (end whole : ℕ) → List ℕ
-beyond_text name end whole = joined (codes "beyond pack: " ∷ name ∷ codes " ends at " ∷ decimal end ∷ codes " of " ∷ decimal whole ∷ codes "\n" ∷ [])
+beyond_text name end whole =
+    joined (codes "beyond pack: " ∷ name ∷ codes " ends at " ∷ decimal end ∷ codes " of " ∷ decimal whole ∷ codes "\n" ∷ [])
 
--- A command on a file that was loaded: `did` says what it does with the bytes at their place, in the memory after the load. Each
--- refusal is told, and leaves what the load leaves.
+-- A command on a file that was loaded: `did` says what it does with the bytes at their place, in the memory after the load.
+-- Each refusal is told, and leaves what the load leaves.
 abbrev pub with_load : (missing name : List ℕ) → (State → Memory → ℕ → List ℕ → Did) → State → Memory → Load → Did
 with_load missing name did s m Missing = loads (record s { memory = m }) (missing_text missing name)
 with_load missing name did s m (Beyond end whole) = loads (record s { memory = m }) (beyond_text name end whole)
@@ -69,7 +72,8 @@ by_load missing did None s = bad_name s
 by_load missing did (Some name) s = with_told missing name (did name) s (load_low s.path.mounts s.memory name)
 
 abbrev pub file_text : List ℕ → (size place : ℕ) → List ℕ
-file_text name size place = joined (codes "file " ∷ name ∷ codes " " ∷ decimal size ∷ codes " at " ∷ decimal place ∷ codes "\n" ∷ [])
+file_text name size place =
+    joined (codes "file " ∷ name ∷ codes " " ∷ decimal size ∷ codes " at " ∷ decimal place ∷ codes "\n" ∷ [])
 
 abbrev pub shown_file : List ℕ → State → Memory → ℕ → List ℕ → Did
 shown_file name s m place bytes = loads (record s { memory = m }) (file_text name (length bytes) place)
@@ -82,7 +86,9 @@ abbrev pub exec_text : List ℕ → Bool → List ℕ
 exec_text name fits = joined (codes "execing " ∷ name ∷ codes "\n" ∷ (if fits then [] else codes "overflow\n") ∷ [])
 
 abbrev pub inserted_text : List ℕ → State → Memory → List ℕ → Did
-inserted_text name s m text = loads (record s { memory = m; buffer = (if fits_in text s.buffer then text ++ s.buffer else s.buffer) }) (exec_text name (fits_in text s.buffer))
+inserted_text name s m text =
+    loads (record s { memory = m; buffer = (if fits_in text s.buffer then text ++ s.buffer else s.buffer) })
+    (exec_text name (fits_in text s.buffer))
 
 -- what was loaded is inserted_text in front of the buffer, and the low hunk is freed to the mark before the load
 abbrev pub inserted_file : List ℕ → State → Memory → ℕ → List ℕ → Did
@@ -98,7 +104,8 @@ of_number_and_name did (Some size) None s = bad_name s
 of_number_and_name did (Some size) (Some name) s = did size name s
 
 abbrev pub block_text : (title name : List ℕ) → (size place : ℕ) → List ℕ
-block_text title name size place = joined (title ∷ name ∷ codes " " ∷ decimal size ∷ codes " at " ∷ decimal place ∷ codes "\n" ∷ [])
+block_text title name size place =
+    joined (title ∷ name ∷ codes " " ∷ decimal size ∷ codes " at " ∷ decimal place ∷ codes "\n" ∷ [])
 
 abbrev pub given_text : (title name : List ℕ) → ℕ → Result ℕ Shortage → List ℕ
 given_text title name size (Err shortage) = short_text shortage.asked
@@ -128,12 +135,15 @@ answer_video size name s = of_number_and_name video_block size name s
 
 -- the host level becomes where the low hunk ends
 abbrev pub answer_level : State → Did
-answer_level s = says (record s { level = low_used s.memory }) Goes (joined (codes "level " ∷ decimal (low_used s.memory) ∷ codes "\n" ∷ []))
+answer_level s = says (record s { level = low_used s.memory }) Goes
+    (joined (codes "level " ∷ decimal (low_used s.memory) ∷ codes "\n" ∷ []))
 
 -- a mount as `path` lists it
 abbrev pub mount_line : MountRow → List ℕ
 mount_line (row.Folder folder) = joined (codes "folder " ∷ decimal folder ∷ codes "\n" ∷ [])
-mount_line (row.Pack folder pack count) = joined (codes "pack " ∷ decimal folder ∷ codes " pak" ∷ decimal pack ∷ codes ".pak " ∷ decimal count ∷ codes " files\n" ∷ [])
+mount_line (row.Pack folder pack count) =
+    joined (codes "pack " ∷ decimal folder ∷ codes " pak" ∷ decimal pack
+    ∷ codes ".pak " ∷ decimal count ∷ codes " files\n" ∷ [])
 
 abbrev pub mount_lines : List MountRow → List ℕ
 mount_lines [] = []
@@ -192,7 +202,8 @@ expansion_text fits = if fits then [] else joined (codes "overflow\n" ∷ [])
 -- the value of an alias goes in front of the buffer, where it fits
 abbrev pub answer_expansion : List ℕ → State → Did
 answer_expansion value s =
-    says (record s { buffer = (if fits_in value s.buffer then value ++ s.buffer else s.buffer) }) Goes (expansion_text (fits_in value s.buffer))
+    says (record s { buffer = (if fits_in value s.buffer then value ++ s.buffer else s.buffer) }) Goes
+    (expansion_text (fits_in value s.buffer))
 
 abbrev pub cvar_text : (name value : List ℕ) → List ℕ
 cvar_text name value = joined (codes "\"" ∷ name ∷ codes "\" is \"" ∷ value ∷ codes "\"\n" ∷ [])
@@ -202,7 +213,8 @@ cvar_set_text (Ok found) = []
 cvar_set_text (Err asked) = full_text asked
 
 abbrev pub cvar_was_set : State → CvarSet → Did
-cvar_was_set s given = takes (record s { memory = given.given.after; cvars = given.cvars }) (cvar_set_text given.given.answer)
+cvar_was_set s given =
+    takes (record s { memory = given.given.after; cvars = given.cvars }) (cvar_set_text given.given.answer)
 
 abbrev pub make_cvar : List (List ℕ) → State → Did
 make_cvar words s = cvar_was_set s (set_cvar s.memory s.cvars (word_at 0 words) (word_at 1 words))

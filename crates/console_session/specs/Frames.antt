@@ -1,6 +1,7 @@
 -- Frames of commands, and input lines.
 use Prim.Native.Nat.{zero, suc}
-use Rattle.std.specs.Prelude.{◌≡◌, ◌⊎◌, ℕ, List, [], ◌∷◌, ◌++◌, length, Bool, true, false, ◌==◌, if◌then◌else◌, Option, Some, None, Result, Ok, Err, codes}
+use Rattle.std.specs.Prelude.{◌≡◌, ◌⊎◌, ℕ, List, [], ◌∷◌, ◌++◌, length, Bool, true}
+use Rattle.std.specs.Prelude.{false, ◌==◌, if◌then◌else◌, Option, Some, None, Result, Ok, Err, codes}
 use Rattle.std.specs.List.{AllByRecursion}
 use Rattle.cmd_buffer.specs.Buffer.{fits_in, input}
 use Rattle.outside_io.specs.Streams.{Adds}
@@ -52,7 +53,8 @@ continued Untold ends rest = untold
 
 -- the commands of the buffer, of which at most so many are taken
 unfoldable pub frame : Bool → ℕ → State → Ran
-frame through zero s = if length s.buffer == 0 then stopped s [] false else stopped (record s { buffer = [] }) (plain (codes "runaway\n") ∷ []) false
+frame through zero s = if length s.buffer == 0 then stopped s [] false
+    else stopped (record s { buffer = [] }) (plain (codes "runaway\n") ∷ []) false
 frame through (suc n) s = if length s.buffer == 0 then stopped s [] false
     else continued (command s) (ending through) (λ after. frame through n after)
 
@@ -77,7 +79,8 @@ pub record NoneAsks (ran : Ran) : Type 0 where
   pub none : AllByRecursion (λ (reply : Reply). reply.load ≡ false) ran.replies
 
 -- all replies were put
-pub record IsRun (replies : List Reply) (end : Ended) (answer : Bool) (new : State) (start now : Option (List ℕ)) : Type 0 where
+pub record IsRun (replies : List Reply) (end : Ended) (answer : Bool) (new : State)
+    (start now : Option (List ℕ)) : Type 0 where
   pub quit : end.quit ≡ answer
   pub after : new ≡ end.after
   pub put : Adds (texts replies) start now

@@ -17,8 +17,8 @@ pub record IsLowMark (low : List HunkBlock) (mark : ℕ) : Type 0 where
   pub inside : count ≤ length low
   pub ends : size_of (take count low) ≡ mark
 
--- The memory is laid out, the host level is a mark of the low hunk, the buffer has no zero byte, and the cvars and the aliases are
--- in used blocks of the zone, each in its own.
+-- The memory is laid out, the host level is a mark of the low hunk, the buffer has no zero byte, and the cvars and the
+-- aliases are in used blocks of the zone, each in its own.
 pub record Holds (s : State) : Type 0 where
   pub laid : Laid s.memory
   pub level : IsLowMark s.memory.low s.level

@@ -16,7 +16,8 @@ use Rattle.console_session.specs.declared.ends.Next.{Next}
 use Rattle.console_session.specs.declared.ends.Fault.{Fault}
 
 abbrev pub path_of : {F : Type 0} → FolderGhosts F → PathState F → PathSeen
-path_of folder path = record { rows = rows_of path; mounts = told_mounts folder.files path; told = told_of folder.files path }
+path_of folder path =
+    record { rows = rows_of path; mounts = told_mounts folder.files path; told = told_of folder.files path }
 
 -- the state of a console
 abbrev pub seen : {M F : Type 0} → StoreGhosts M → FolderGhosts F → Console M F → State
@@ -37,13 +38,14 @@ abbrev pub calls_in : {M F : Type 0} → FolderGhosts F → Console M F → List
 calls_in folder console = counts_of folder.folder_calls console.paths
 
 module _ {M F O : Type 0} (store : StoreGhosts M) (folder : FolderGhosts F) (sink : SinkGhosts O) where
-  -- What a call does by this answer: what was told, and that the path stands, what a console keeps is kept, each fault has its
-  -- cause, and no folder was called where no file was asked for.
+  -- What a call does by this answer: what was told, and that the path stands, what a console keeps is kept, each fault has
+  -- its cause, and no folder was called where no file was asked for.
   pub record Does (answer : State → Did) (old new : Console M F) (before now : O) (result : Result Next Fault) : Type 0 where
     pub told : Follows (answer (seen store folder old)) result (seen store folder new) (sink.got before) (sink.got now)
     pub path : path_of folder new.paths ≡ path_of folder old.paths
     pub holds : Holds (seen store folder new)
-    pub causes : HasCauses store.frugal (faults_in folder old) (faults_in folder new) (sink.sink_faults before) (sink.sink_faults now) result
+    pub causes : HasCauses store.frugal (faults_in folder old) (faults_in folder new)
+        (sink.sink_faults before) (sink.sink_faults now) result
     pub calls : OnFalse (asks (answer (seen store folder old))) (calls_in folder new ≡ calls_in folder old)
 
   -- The same of a run of commands; the result tells whether `quit` was executed.
@@ -51,7 +53,8 @@ module _ {M F O : Type 0} (store : StoreGhosts M) (folder : FolderGhosts F) (sin
     pub told : Runs (run (seen store folder old)) result (seen store folder new) (sink.got before) (sink.got now)
     pub path : path_of folder new.paths ≡ path_of folder old.paths
     pub holds : Holds (seen store folder new)
-    pub causes : HasCauses store.frugal (faults_in folder old) (faults_in folder new) (sink.sink_faults before) (sink.sink_faults now) result
+    pub causes : HasCauses store.frugal (faults_in folder old) (faults_in folder new)
+        (sink.sink_faults before) (sink.sink_faults now) result
     pub calls : NoneAsks (run (seen store folder old)) → calls_in folder new ≡ calls_in folder old
 
 -- the causes of a load's errors
@@ -63,7 +66,8 @@ LoadCause frugal before now (load.FolderFault folder at) = (folder < length befo
 LoadCause frugal before now load.OutOfMemory = frugal ≡ false
 
 -- A load changes the memory alone, which keeps what a console keeps.
-pub record KeepsRest {A M F : Type 0} (store : StoreGhosts M) (folder : FolderGhosts F) (old new : Console M F) (result : Result A LoadError) : Type 0 where
+pub record KeepsRest {A M F : Type 0} (store : StoreGhosts M) (folder : FolderGhosts F)
+    (old new : Console M F) (result : Result A LoadError) : Type 0 where
   pub state : seen store folder new ≡ record (seen store folder old) { memory = store.state new.store }
   pub holds : Holds (seen store folder new)
   pub none_falls : NoneFalls (faults_in folder old) (faults_in folder new)

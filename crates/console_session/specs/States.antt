@@ -8,20 +8,21 @@ use Rattle.search_paths.specs.Counts.{NoneFalls, RoseAt}
 use Rattle.outside_io.specs.Streams.{Adds, AddsFront}
 use Rattle.mem_model.specs.Memory.{Memory, low_used, new_memory}
 use Rattle.cvar_table.specs.Cvars.{Cvar, created, defaults}
+use Rattle.console_session.specs.declared.session.TheConstants.{USERS}
 use Rattle.console_session.specs.declared.ends.Next.{Next}
 use Rattle.console_session.specs.declared.ends.Next.TheVariants.{Goes}
 use Rattle.console_session.specs.declared.ends.Fault.{Fault}
 use Rattle.console_session.specs.declared.ends.Fault.TheVariants as fault
 
--- What is seen of a path: how its mounts are listed, from its front on; each of them, where its folder tells its files; and what
--- each folder tells.
+-- What is seen of a path: how its mounts are listed, from its front on; each of them, where its folder tells its files; and
+-- what each folder tells.
 pub record PathSeen : Type 0 where
   pub rows : List MountRow
   pub mounts : List (Option Mount)
   pub told : List (Option (List File))
 
--- The memory; the path; the bytes of the command buffer; the host level, a mark of the low hunk; the cvars; and the record of the
--- newest alias. The values of the cvars, and the aliases, are read from the memory.
+-- The memory; the path; the bytes of the command buffer; the host level, a mark of the low hunk; the cvars; and the record
+-- of the newest alias. The values of the cvars, and the aliases, are read from the memory.
 pub record State : Type 0 where
   pub memory : Memory
   pub path : PathSeen
@@ -30,19 +31,20 @@ pub record State : Type 0 where
   pub cvars : List Cvar
   pub newest : Option ℕ
 
--- a memory that was just created, with a zone of at least 4096 bytes and 768 users of the cache
+-- a memory that was just created, with a zone of at least 4096 bytes and as many users of the cache as a session has
 pub record IsNew (m : Memory) : Type 0 where
   pub size : ℕ
   pub zone : ℕ
   pub event_room : ℕ
-  pub is : m ≡ new_memory size zone 768 event_room
+  pub is : m ≡ new_memory size zone USERS event_room
   pub large : 4096 ≤ zone
 
 abbrev pub cvars_in : Result (List Cvar) ℕ → List Cvar
 cvars_in (Ok cvars) = cvars
 cvars_in (Err asked) = []
 
--- At the start the cvars have their defaults, there is no alias, the buffer is empty, and the host level is where the low hunk ends.
+-- At the start the cvars have their defaults, there is no alias, the buffer is empty, and the host level is where the low
+-- hunk ends.
 abbrev pub started : Memory → PathSeen → State
 started m path = record {
   memory = (created m defaults).after;
@@ -65,7 +67,8 @@ pub record Done : Type 0 where
   pub reply : Reply
   pub next : Next
 
--- What a command does is told but where it asks for a file and comes to a mount that isn't told before the first that has it.
+-- What a command does is told, but where it asks for a file and comes to a mount that isn't told before the first that has
+-- it.
 pub data Did : Type 0 where
   Told : Done → Did
   Untold : Did
@@ -93,8 +96,8 @@ pub record IsDone (done : Done) (answer : Next) (new : State) (start now : Optio
   pub after : new ≡ done.after
   pub put : Adds done.reply.text start now
 
--- A fault ended a command in its reply: a failing sink took a front of it, and nothing of it was put where a folder failed, of
--- which the command asked for a file, or where the memory ran out that it asked for.
+-- A fault ended a command in its reply: a failing sink took a front of it, and nothing of it was put where a folder failed,
+-- of which the command asked for a file, or where the memory ran out that it asked for.
 abbrev pub CutsOff : Reply → Fault → (start now : Option (List ℕ)) → Type 0
 CutsOff reply fault.Write start now = AddsFront reply.text start now
 CutsOff reply (fault.Folder folder) start now = (reply.load ≡ true) × (now ≡ start)
@@ -104,8 +107,8 @@ CutsOff reply fault.Memory start now = (reply.takes ≡ true) × (now ≡ start)
 abbrev pub StillPut : (start now : Option (List ℕ)) → Type 0
 StillPut start now = (more : List ℕ) × Adds more start now
 
--- A call did what a command does, or a fault ended it in its reply. Of one that isn't told nothing is known but that it took back
--- nothing that was put.
+-- A call did what a command does, or a fault ended it in its reply. Of one that isn't told nothing is known but that it took
+-- back nothing that was put.
 abbrev pub Follows : Did → Result Next Fault → State → (start now : Option (List ℕ)) → Type 0
 Follows (Told done) (Ok next) after start now = IsDone done next after start now
 Follows (Told done) (Err fault) after start now = CutsOff done.reply fault start now
@@ -113,12 +116,14 @@ Follows Untold result after start now = StillPut start now
 
 -- A folder's fault names a folder whose count rose.
 abbrev pub CauseOf : Bool → (faults_before faults_now : List ℕ) → (sink_before sink_now : ℕ) → Fault → Type 0
-CauseOf frugal faults_before faults_now sink_before sink_now (fault.Folder folder) = (folder < length faults_before) × RoseAt folder faults_before faults_now
+CauseOf frugal faults_before faults_now sink_before sink_now (fault.Folder folder) =
+    (folder < length faults_before) × RoseAt folder faults_before faults_now
 CauseOf frugal faults_before faults_now sink_before sink_now fault.Write = Rose sink_before sink_now
 CauseOf frugal faults_before faults_now sink_before sink_now fault.Memory = frugal ≡ false
 
 -- Each fault has its cause, no count of faults falls, and no folder comes or goes.
-pub record HasCauses {A : Type 0} (frugal : Bool) (faults_before faults_now : List ℕ) (sink_before sink_now : ℕ) (result : Result A Fault) : Type 0 where
+pub record HasCauses {A : Type 0} (frugal : Bool) (faults_before faults_now : List ℕ) (sink_before sink_now : ℕ)
+    (result : Result A Fault) : Type 0 where
   pub none_falls : NoneFalls faults_before faults_now
   pub folders : length faults_now ≡ length faults_before
   pub sink_counts : sink_before ≤ sink_now

@@ -29,7 +29,8 @@ SinkCause before now (fault.Folder folder) = Unit {0}
 SinkCause before now fault.Memory = Unit {0}
 
 -- the whole of it, with the sink's count
-pub record Puts {A O : Type 0} (sink : SinkGhosts O) (reply : Result (List ℕ) Fault) (answer : A) (before now : O) (result : Result A Fault) : Type 0 where
+pub record Puts {A O : Type 0} (sink : SinkGhosts O) (reply : Result (List ℕ) Fault)
+    (answer : A) (before now : O) (result : Result A Fault) : Type 0 where
   pub told : Tells reply answer result (sink.got before) (sink.got now)
   pub counts : sink.sink_faults before ≤ sink.sink_faults now
   pub cause : IfErr result (λ fault. SinkCause (sink.sink_faults before) (sink.sink_faults now) fault)

@@ -30,7 +30,8 @@ verbs =
 
 -- the first of these that a word names, in any case
 abbrev pub verb_among : List Named → List ℕ → Option Verb
-verb_among commands word = option_map (λ (n : Named). n.verb) (find (λ (n : Named). str_eq_ignore_ascii_case word n.name) commands)
+verb_among commands word =
+    option_map (λ (n : Named). n.verb) (find (λ (n : Named). str_eq_ignore_ascii_case word n.name) commands)
 
 abbrev pub verb_of : List ℕ → Option Verb
 verb_of word = verb_among verbs word

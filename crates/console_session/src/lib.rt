@@ -9,7 +9,7 @@ mod session;
 mod verbs;
 
 pub use ends::{Fault, StepEnd};
-pub use session::Session;
+pub use session::{Session, USERS};
 
 #[cfg(test)]
 mod tests;

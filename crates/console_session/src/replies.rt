@@ -5,8 +5,9 @@ ghost use Rattle.reply_pieces.specs.Pieces.{text_of, joined, PutsText};
 ghost use Rattle.cmd_buffer.specs.Aliases.{HoldsAliases, alias_texts};
 ghost use Rattle.block_report.specs.Reports.{report_text};
 ghost use Rattle.console_session.specs.Telling.{Puts, load_told, block_told, cvar_told, alias_told};
-ghost use Rattle.console_session.specs.Commands.{missing_text, beyond_text, short_text, full_text, long_name_text, block_text};
-ghost use Rattle.console_session.specs.Commands.{spaced, exec_text, file_text, cvar_text, expansion_text, unknown_text};
+ghost use Rattle.console_session.specs.Commands.{missing_text, beyond_text, short_text, full_text, long_name_text};
+ghost use Rattle.console_session.specs.Commands.{block_text, spaced};
+ghost use Rattle.console_session.specs.Commands.{exec_text, file_text, cvar_text, expansion_text, unknown_text};
 ghost use Rattle.console_session.specs.Commands.{alias_line, alias_lines, alias_list, mount_line, mount_lines};
 
 use crate::ends::{Fault, Next};

@@ -16,6 +16,9 @@ use search_paths::Paths;
 use std::alloc::AllocError;
 use std::marker::Model;
 
+/// How many users the cache of a session's store has.
+pub const USERS: u32 = 768;
+
 /// A console over a store and a path of folders. In every session the memory is laid out, and the cvars and aliases are in
 /// blocks of the zone that nothing else writes.
 #[derive(Drop)]

@@ -1,6 +1,6 @@
 ghost use Rattle.std.specs.Prelude.{◌≡◌, IfOk, false};
 
-use crate::{Session, StepEnd};
+use crate::{Session, StepEnd, USERS};
 use mem_model::PlainStore;
 use outside_io::{MemFile, MemFolder, MemSink};
 use search_paths::Paths;
@@ -26,7 +26,7 @@ fn folder(
 fn session(alloc: Global, first: u64, second: u64) -> Result<Session<PlainStore, MemFolder>, Fail>
     ensures { IfOk result (λ session. session.ended ≡ false) }
 {
-    let store = PlainStore::create(alloc, 1_048_576, 49_152, 768)?;
+    let store = PlainStore::create(alloc, 1_048_576, 49_152, USERS)?;
     let mut paths = Paths::create(alloc)?;
     if let Err(error) = paths.mount(alloc, folder(alloc, b"a.cfg", b"echo hi", first)?) {
         return Err(Fail::from(error));

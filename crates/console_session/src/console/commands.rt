@@ -7,7 +7,8 @@ ghost use Rattle.cmd_buffer.specs.Buffer.{fits_in};
 ghost use Rattle.file_load.specs.Loads.{load_low, Loads};
 ghost use Rattle.console_session.specs.Holding.{Holds};
 ghost use Rattle.console_session.specs.Serving.{seen, Does, KeepsRest};
-ghost use Rattle.console_session.specs.Commands.{answer_echo, answer_file, answer_exec, answer_reserve, answer_video, answer_level, answer_report, answer_path, answer_flush};
+ghost use Rattle.console_session.specs.Commands.{answer_echo, answer_file, answer_exec, answer_reserve};
+ghost use Rattle.console_session.specs.Commands.{answer_video, answer_level, answer_report, answer_path, answer_flush};
 
 use crate::console::Console;
 use crate::console::values::insert;

@@ -88,7 +88,8 @@ impl<M: Store, F: Folder> Console<M, F> {
         }
     }
 
-    // Takes commands, each into `text`, until the buffer is empty, or a command ends the frame. True where `quit` was executed.
+    // Takes commands, each into `text`, until the buffer is empty, or a command ends the frame. True where `quit` was
+    // executed.
     pub fn run_frame<O: Sink>(
         &mut self,
         through: bool,
