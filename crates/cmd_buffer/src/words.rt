@@ -58,6 +58,7 @@ pub fn tokenize(text: &[u8]) -> Words<'_>
 
 impl<'a> Words<'a> {
     /// The first word, where there is one.
+    #[inline(always)]
     pub fn first(&self) -> Option<&'a [u8]>
         ensures { option_map (λ (word : Bor (List ℕ)). word.now) result ≡ slice_get self.now 0 }
     {
@@ -68,6 +69,7 @@ impl<'a> Words<'a> {
     }
 
     /// The words behind the first.
+    #[inline(always)]
     pub fn rest(&self) -> Words<'a>
         ensures { result ≡ drop 1 self.now }
     {
@@ -143,7 +145,8 @@ impl<'a> Words<'a> {
     }
 }
 
-// The first word of a text, and what follows it.
+// The first word of a text, and what follows it. Inlined, so that what it finds stays in registers.
+#[inline(always)]
 fn next_word(text: &[u8]) -> Option<Found<'_>>
     ensures { option_map found_of result ≡ first_word text.now }
 {
@@ -151,6 +154,7 @@ fn next_word(text: &[u8]) -> Option<Found<'_>>
 }
 
 // The word that begins at the front of a text.
+#[inline(always)]
 fn front_word(text: &[u8]) -> Option<Found<'_>>
     ensures { option_map found_of result ≡ word_at_front text.now }
 {
