@@ -1,12 +1,28 @@
 //! What no clause says: that calls succeed, and numbers from outside.
+//!
+//! A function over any store `M` is a test that every store has to pass. The tests at the top run each on a plain store.
 
-ghost use Rattle.std.specs.Prelude.{◌≡◌, ◌≤◌, ◌^◌, length, true, IfOk};
+ghost use Rattle.std.specs.Prelude.{◌≡◌, ◌≤◌, ◌<◌, ◌^◌, ℕ, List, length, true, IfOk, Some, None};
+ghost use Rattle.mem_model.specs.Memory.{new_memory};
+ghost use Rattle.mem_model.specs.Keeps.{KeepsUsers};
+ghost use Rattle.mem_model.specs.Cache.{peek_bytes};
+ghost use Rattle.mem_model.specs.Hunk.{low_bytes, temp_bytes};
+ghost use Rattle.mem_model.specs.Zone.{zone_bytes};
 
 use crate::{
     BadMark, BlockRow, CacheError, FreeError, Place, PlainStore, RoomError, Store, StoreStart,
     ZoneError,
 };
+use std::alloc::Global;
+use std::process::Abort;
 use std::test::Fail;
+
+// A plain store of the size that most tests ask for.
+fn plain(alloc: Global) -> Result<PlainStore, StoreStart>
+    ensures { IfOk result (λ store. store ≡ new_memory 65536 49152 8 0) }
+{
+    PlainStore::create(alloc, 65_536, 49_152, 8)
+}
 
 #[test]
 fn a_store_holds_its_zone(rt: HostRuntime) -> Result<(), Fail> {
@@ -21,8 +37,47 @@ fn a_store_holds_its_zone(rt: HostRuntime) -> Result<(), Fail> {
 }
 
 #[test]
-fn low_blocks_fill_the_room(rt: HostRuntime) -> Result<(), Fail> {
-    let mut store = PlainStore::create(rt.alloc(), 1_048_576, 49_152, 768)?;
+fn low_blocks_of_a_plain_store(rt: HostRuntime) -> Result<(), Fail> {
+    low_blocks_fill_the_room(&rt, PlainStore::create(rt.alloc(), 1_048_576, 49_152, 768)?);
+    the_low_hunk_is_freed_to_marks(&rt, plain(rt.alloc())?)?;
+    low_blocks_keep_what_is_written(&rt, plain(rt.alloc())?)
+}
+
+#[test]
+fn high_blocks_of_a_plain_store(rt: HostRuntime) -> Result<(), Fail> {
+    the_high_hunk_has_one_temporary_block(&rt, plain(rt.alloc())?)?;
+    rows_go_upwards(&rt, plain(rt.alloc())?)
+}
+
+#[test]
+fn zone_blocks_of_a_plain_store(rt: HostRuntime) -> Result<(), Fail> {
+    a_zone_block_takes_a_small_rest(&rt, plain(rt.alloc())?);
+    a_zone_block_leaves_a_large_rest(&rt, plain(rt.alloc())?);
+    freed_zone_blocks_are_joined(&rt, plain(rt.alloc())?);
+    zone_blocks_keep_what_is_written(&rt, plain(rt.alloc())?)
+}
+
+#[test]
+fn cache_blocks_of_a_plain_store(rt: HostRuntime) -> Result<(), Fail> {
+    cache_blocks_hop_up(&rt, plain(rt.alloc())?)?;
+    cache_blocks_hop_down(&rt, plain(rt.alloc())?);
+    a_cache_block_without_a_gap_leaves(&rt, plain(rt.alloc())?);
+    the_cache_refuses_and_evicts(&rt, plain(rt.alloc())?)
+}
+
+#[test]
+fn blocks_of_a_plain_store_stay_whole(rt: HostRuntime) -> Result<(), Fail> {
+    let mut store = plain(rt.alloc())?;
+    fill(&rt, &mut store, &[56, 216, 56]);
+    stir_all(&mut store, 1);
+    assert_eq!(rt; store.peek(2), Some([0; 56].as_slice()));
+    let mut other = plain(rt.alloc())?;
+    stir_cache(&mut other, 0);
+    assert_eq!(rt; other.lru_user(0), None);
+    Ok(())
+}
+
+fn low_blocks_fill_the_room<M: Store>(rt: &impl Abort, mut store: M) {
     let no_room = |asked, room| Err(RoomError::NoRoom { asked, room });
     for (size, answer, mark) in [
         (1_000_000, no_room(1_000_016, 999_408), 49_168),
@@ -32,12 +87,9 @@ fn low_blocks_fill_the_room(rt: HostRuntime) -> Result<(), Fail> {
         assert_eq!(rt; store.low_alloc(size, b"big"), answer, "at {size}");
         assert_eq!(rt; store.low_mark(), mark, "at {size}");
     }
-    Ok(())
 }
 
-#[test]
-fn the_low_hunk_is_freed_to_marks(rt: HostRuntime) -> Result<(), Fail> {
-    let mut store = PlainStore::create(rt.alloc(), 65_536, 49_152, 8)?;
+fn the_low_hunk_is_freed_to_marks<M: Store>(rt: &impl Abort, mut store: M) -> Result<(), Fail> {
     store.low_alloc(100, b"first")?;
     store.low_alloc(32, b"second")?;
     for (mark, answer, end) in [
@@ -57,9 +109,9 @@ fn the_low_hunk_is_freed_to_marks(rt: HostRuntime) -> Result<(), Fail> {
     Ok(())
 }
 
-// Puts a text into a new block of any store, and reads it back.
+// Puts a text into a new low block, and reads it back.
 #[tactic(auto, using(crate::proofs::Laws::store_laws))]
-fn reads_back<S: Store>(store: &mut S, text: &[u8]) -> Result<bool, RoomError>
+fn reads_back<M: Store>(store: &mut M, text: &[u8]) -> Result<bool, RoomError>
     requires small { length text.now ≤ 2 ^ 20 }
 {
     let place = store.low_alloc(text.len() as u64, b"a long name")?;
@@ -67,11 +119,11 @@ fn reads_back<S: Store>(store: &mut S, text: &[u8]) -> Result<bool, RoomError>
     Ok(store.low_bytes(place).starts_with(text))
 }
 
-// Puts a text into a new block of any store, and gives the block back.
+// Puts a text into a new low block, and gives the block back.
 #[tactic(auto, using(crate::proofs::Laws::store_laws))]
-fn gives_back<S: Store>(store: &mut S, text: &[u8]) -> Result<bool, RoomError>
+fn gives_back<M: Store>(store: &mut M, text: &[u8]) -> Result<bool, RoomError>
     requires small { length text.now ≤ 2 ^ 20 }
-    ensures { IfOk result (λ done. (done ≡ true) × ((S.state store.new).low ≡ (S.state store.old).low)) }
+    ensures { IfOk result (λ done. (done ≡ true) × ((M.state store.new).low ≡ (M.state store.old).low)) }
 {
     let mark = store.low_mark();
     let place = store.low_alloc(text.len() as u64, b"brief")?;
@@ -87,9 +139,7 @@ fn put(bytes: &mut [u8], text: &[u8])
 }
 
 #[tactic(auto, using(crate::proofs::Laws::store_laws))]
-#[test]
-fn blocks_keep_what_is_written(rt: HostRuntime) -> Result<(), Fail> {
-    let mut store = PlainStore::create(rt.alloc(), 65_536, 49_152, 8)?;
+fn low_blocks_keep_what_is_written<M: Store>(rt: &impl Abort, mut store: M) -> Result<(), Fail> {
     assert!(rt; reads_back(&mut store, b"hello")?);
     assert!(rt; gives_back(&mut store, b"a longer text, of more than one line")?);
     assert_eq!(rt; (store.low_mark(), store.room()), (49_200, 16_336));
@@ -99,9 +149,9 @@ fn blocks_keep_what_is_written(rt: HostRuntime) -> Result<(), Fail> {
     Ok(())
 }
 
-// Puts a text into a new temporary block of any store, and reads it back.
+// Puts a text into a new temporary block, and reads it back.
 #[tactic(auto, using(crate::proofs::Laws::store_laws))]
-fn reads_back_high<S: Store>(store: &mut S, text: &[u8]) -> Result<bool, RoomError>
+fn reads_back_high<M: Store>(store: &mut M, text: &[u8]) -> Result<bool, RoomError>
     requires small { length text.now ≤ 2 ^ 20 }
 {
     store.temp_alloc(text.len() as u64)?;
@@ -112,9 +162,10 @@ fn reads_back_high<S: Store>(store: &mut S, text: &[u8]) -> Result<bool, RoomErr
     }
 }
 
-#[test]
-fn the_high_hunk_has_one_temporary_block(rt: HostRuntime) -> Result<(), Fail> {
-    let mut store = PlainStore::create(rt.alloc(), 65_536, 49_152, 8)?;
+fn the_high_hunk_has_one_temporary_block<M: Store>(
+    rt: &impl Abort,
+    mut store: M,
+) -> Result<(), Fail> {
     assert!(rt; reads_back_high(&mut store, b"seventeen letters")?);
     assert_eq!(rt;
         (store.temp_alloc(16_000), store.temp_active()),
@@ -157,9 +208,7 @@ fn brief(row: Option<BlockRow>) -> Option<(u32, u32, u8)> {
     }
 }
 
-#[test]
-fn rows_go_upwards(rt: HostRuntime) -> Result<(), Fail> {
-    let mut store = PlainStore::create(rt.alloc(), 65_536, 49_152, 8)?;
+fn rows_go_upwards<M: Store>(rt: &impl Abort, mut store: M) -> Result<(), Fail> {
     store.low_alloc(100, b"first")?;
     store.high_alloc(16, b"video")?;
     store.temp_alloc(1)?;
@@ -182,34 +231,23 @@ fn brief_zone(row: Option<BlockRow>) -> Option<(u32, u32, bool)> {
     }
 }
 
-#[test]
-fn a_zone_block_is_cut_from_a_free_one(rt: HostRuntime) -> Result<(), Fail> {
-    let full = Err(ZoneError::Full { asked: 32 });
-    for (size, taken, rest, rover, next) in [
-        (10, 40, Some((88, 49_080, false)), 88, Ok(Place(112))),
-        (
-            49_020,
-            49_048,
-            Some((49_096, 72, false)),
-            49_096,
-            Ok(Place(49_120)),
-        ),
-        (49_028, 49_120, None, 20, full),
-    ] {
-        let mut store = PlainStore::create(rt.alloc(), 65_536, 49_152, 8)?;
-        assert_eq!(rt; store.z_alloc(size), Ok(Place(72)), "of {size}");
-        let first = brief_zone(store.zone_row(0));
-        assert_eq!(rt; first, Some((48, taken, true)), "of {size}");
-        assert_eq!(rt; brief_zone(store.zone_row(1)), rest, "of {size}");
-        assert_eq!(rt; store.rover(), rover, "of {size}");
-        assert_eq!(rt; store.z_alloc(1), next, "of {size}");
-    }
-    Ok(())
+fn a_zone_block_takes_a_small_rest<M: Store>(rt: &impl Abort, mut store: M) {
+    assert_eq!(rt; store.z_alloc(49_028), Ok(Place(72)));
+    assert_eq!(rt; brief_zone(store.zone_row(0)), Some((48, 49_120, true)));
+    assert!(rt; store.zone_row(1).is_none());
+    assert_eq!(rt; store.rover(), 20);
+    assert_eq!(rt; store.z_alloc(1), Err(ZoneError::Full { asked: 32 }));
 }
 
-#[test]
-fn freed_zone_blocks_are_joined(rt: HostRuntime) -> Result<(), Fail> {
-    let mut store = PlainStore::create(rt.alloc(), 65_536, 49_152, 8)?;
+fn a_zone_block_leaves_a_large_rest<M: Store>(rt: &impl Abort, mut store: M) {
+    assert_eq!(rt; store.z_alloc(49_020), Ok(Place(72)));
+    assert_eq!(rt; brief_zone(store.zone_row(0)), Some((48, 49_048, true)));
+    assert_eq!(rt; brief_zone(store.zone_row(1)), Some((49_096, 72, false)));
+    assert_eq!(rt; store.rover(), 49_096);
+    assert_eq!(rt; store.z_alloc(1), Ok(Place(49_120)));
+}
+
+fn freed_zone_blocks_are_joined<M: Store>(rt: &impl Abort, mut store: M) {
     for place in [72, 112, 152] {
         assert_eq!(rt; store.z_alloc(10), Ok(Place(place)));
     }
@@ -228,12 +266,11 @@ fn freed_zone_blocks_are_joined(rt: HostRuntime) -> Result<(), Fail> {
         assert_eq!(rt; row, Some((48, first, false)), "of {place}");
     }
     assert!(rt; store.zone_row(1).is_none());
-    Ok(())
 }
 
-// Puts a text into a new block of any store's zone, and reads it back.
+// Puts a text into a new block of the zone, and reads it back.
 #[tactic(auto, using(crate::proofs::ZoneLaws::zone_laws))]
-fn reads_back_zone<S: Store>(store: &mut S, text: &[u8]) -> Result<bool, ZoneError>
+fn reads_back_zone<M: Store>(store: &mut M, text: &[u8]) -> Result<bool, ZoneError>
     requires small { length text.now ≤ 2 ^ 20 }
 {
     let place = store.z_alloc(text.len() as u64)?;
@@ -241,151 +278,156 @@ fn reads_back_zone<S: Store>(store: &mut S, text: &[u8]) -> Result<bool, ZoneErr
     Ok(store.zone_bytes(place).starts_with(text))
 }
 
-#[test]
-fn zone_blocks_keep_what_is_written(rt: HostRuntime) -> Result<(), Fail> {
-    let mut store = PlainStore::create(rt.alloc(), 65_536, 49_152, 8)?;
+fn zone_blocks_keep_what_is_written<M: Store>(rt: &impl Abort, mut store: M) -> Result<(), Fail> {
     assert!(rt; reads_back_zone(&mut store, b"hello")?);
     assert!(rt; reads_back_zone(&mut store, b"a longer text, of more than one line")?);
     assert_eq!(rt; store.rover(), 48 + 40 + 64);
     Ok(())
 }
 
-// The place and the user of a row of the cache.
-fn brief_cache(row: Option<BlockRow>) -> Option<(u32, u32)> {
-    match row {
-        Some(row) => Some((row.place, row.user)),
-        None => None,
+// Asks for a block of the cache of 8 users.
+fn ask<M: Store>(store: &mut M, user: u32, size: u32) -> Result<(), CacheError>
+    requires users { (M.state store.old).users ≡ 8 }
+    requires user { user < 8 }
+    ensures { (M.state store.new).users ≡ 8 }
+{
+    store.cache_alloc(user, u64::from(size), b"sound")
+}
+
+// Gives each user from 0 on a block of the next of these sizes.
+fn fill<M: Store>(rt: &impl Abort, store: &mut M, sizes: &[u32])
+    requires users { (M.state store.old).users ≡ 8 }
+    requires few { length sizes.now ≤ 8 }
+    ensures { (M.state store.new).users ≡ 8 }
+{
+    for user in 0..sizes.len() {
+        assert_eq!(rt; ask(store, user as u32, sizes[user]), Ok(()), "of {user}");
     }
 }
 
-// The places and users of the first four blocks, and the first four users by use.
-fn shown(store: &PlainStore) -> ([Option<(u32, u32)>; 4], [Option<u32>; 4]) {
-    (
-        [
-            brief_cache(store.cache_row(0)),
-            brief_cache(store.cache_row(1)),
-            brief_cache(store.cache_row(2)),
-            brief_cache(store.cache_row(3)),
-        ],
-        [
-            store.lru_user(0),
-            store.lru_user(1),
-            store.lru_user(2),
-            store.lru_user(3),
-        ],
-    )
+// The places and users of the cache's blocks are these, and so are the users by use.
+fn assert_cache<M: Store>(rt: &impl Abort, store: &M, blocks: &[(u32, u32)], users: &[u32])
+    requires { length blocks.now ≤ 8 }
+{
+    for number in 0..=blocks.len() {
+        let row = match store.cache_row(number as u32) {
+            Some(row) => Some((row.place, row.user)),
+            None => None,
+        };
+        assert_eq!(rt; row, blocks.get(number).copied(), "block {number}");
+        assert_eq!(rt;
+            store.lru_user(number as u32),
+            users.get(number).copied(),
+            "user {number}"
+        );
+    }
 }
 
-#[test]
-fn blocks_of_the_cache_hop_up(rt: HostRuntime) -> Result<(), Fail> {
-    let mut store = PlainStore::create(rt.alloc(), 65_536, 49_152, 8)?;
-    for (user, size) in [(0, 56), (1, 216), (2, 56)] {
-        assert_eq!(rt; store.cache_alloc(user, size, b"sound"), Ok(()));
-    }
-    assert_eq!(rt;
-        shown(&store),
-        (
-            [
-                Some((49_168, 0)),
-                Some((49_264, 1)),
-                Some((49_520, 2)),
-                None
-            ],
-            [Some(2), Some(1), Some(0), None]
-        )
+fn cache_blocks_hop_up<M: Store>(rt: &impl Abort, mut store: M) -> Result<(), Fail>
+    requires { (M.state store).users ≡ 8 }
+{
+    fill(rt, &mut store, &[56, 216, 56]);
+    assert_cache(
+        rt,
+        &store,
+        &[(49_168, 0), (49_264, 1), (49_520, 2)],
+        &[2, 1, 0],
     );
     assert!(rt; store.cache_free(1));
     assert!(rt; !store.cache_free(1));
     store.low_alloc(192, b"map")?;
-    assert_eq!(rt;
-        shown(&store),
-        (
-            [Some((49_520, 2)), Some((49_616, 0)), None, None],
-            [Some(0), Some(2), None, None]
-        )
-    );
+    assert_cache(rt, &store, &[(49_520, 2), (49_616, 0)], &[0, 2]);
     assert_eq!(rt; store.peek_place(0), Some(Place(49_656)));
     assert_eq!(rt; store.peek_place(1), None);
     Ok(())
 }
 
-#[test]
-fn blocks_of_the_cache_hop_down(rt: HostRuntime) -> Result<(), Fail> {
-    let mut store = PlainStore::create(rt.alloc(), 65_536, 49_152, 8)?;
-    for (user, size) in [(0, 56), (1, 216), (2, 15_864), (3, 56)] {
-        assert_eq!(rt; store.cache_alloc(user, size, b"sound"), Ok(()));
-    }
+fn cache_blocks_hop_down<M: Store>(rt: &impl Abort, mut store: M)
+    requires { (M.state store).users ≡ 8 }
+{
+    fill(rt, &mut store, &[56, 216, 15_864, 56]);
     assert_eq!(rt; store.check(0), Some(Place(49_208)));
     assert!(rt; store.cache_free(1));
+    assert_cache(
+        rt,
+        &store,
+        &[(49_168, 0), (49_520, 2), (65_424, 3)],
+        &[0, 3, 2],
+    );
     assert_eq!(rt; store.high_alloc(16, b"video"), Ok(Place(65_520)));
-    assert_eq!(rt;
-        shown(&store),
-        (
-            [
-                Some((49_168, 0)),
-                Some((49_264, 3)),
-                Some((49_520, 2)),
-                None
-            ],
-            [Some(3), Some(0), Some(2), None]
-        )
+    assert_cache(
+        rt,
+        &store,
+        &[(49_168, 0), (49_264, 3), (49_520, 2)],
+        &[3, 0, 2],
     );
     store.flush();
-    assert_eq!(rt; shown(&store), ([None; 4], [None; 4]));
-    Ok(())
+    assert_cache(rt, &store, &[], &[]);
 }
 
-#[test]
-fn a_block_without_a_gap_leaves(rt: HostRuntime) -> Result<(), Fail> {
-    let mut store = PlainStore::create(rt.alloc(), 65_536, 49_152, 8)?;
-    for (user, size) in [(0, 56), (1, 15_960), (2, 56)] {
-        assert_eq!(rt; store.cache_alloc(user, size, b"sound"), Ok(()));
-    }
+fn a_cache_block_without_a_gap_leaves<M: Store>(rt: &impl Abort, mut store: M)
+    requires { (M.state store).users ≡ 8 }
+{
+    fill(rt, &mut store, &[56, 15_960, 56]);
     assert!(rt; store.cache_free(1));
     assert_eq!(rt; store.high_alloc(16_208, b"video"), Ok(Place(49_328)));
-    assert_eq!(rt;
-        shown(&store),
-        (
-            [Some((49_168, 0)), None, None, None],
-            [Some(0), None, None, None]
-        )
-    );
-    Ok(())
+    assert_cache(rt, &store, &[(49_168, 0)], &[0]);
 }
 
-#[test]
-fn the_cache_refuses_and_evicts(rt: HostRuntime) -> Result<(), Fail> {
-    let mut store = PlainStore::create(rt.alloc(), 65_536, 49_152, 8)?;
-    store.cache_alloc(0, 56, b"sound")?;
+#[tactic(auto, using(crate::proofs::CacheLaws::cache_laws))]
+fn the_cache_refuses_and_evicts<M: Store>(rt: &impl Abort, mut store: M) -> Result<(), Fail>
+    requires { (M.state store).users ≡ 8 }
+{
+    fill(rt, &mut store, &[56]);
     let no_room = CacheError::NoRoom {
         asked: 16_448,
         room: 16_368,
     };
-    for (user, size, answer) in [
-        (1, 16_400, no_room),
-        (0, 0, CacheError::Occupied { user: 0 }),
-        (1, 0, CacheError::BadSize),
-    ] {
-        assert_eq!(rt; store.cache_alloc(user, size, b"sound"), Err(answer));
-        assert_eq!(rt; store.peek_place(0), Some(Place(49_208)));
-    }
-    store.cache_alloc(1, 8_000, b"first")?;
-    store.cache_alloc(2, 8_000, b"second")?;
-    assert_eq!(rt; store.check(0), Some(Place(49_208)));
-    store.cache_alloc(3, 8_000, b"third")?;
+    assert_eq!(rt; ask(&mut store, 1, 16_400), Err(no_room));
     assert_eq!(rt;
-        shown(&store),
-        (
-            [
-                Some((49_168, 0)),
-                Some((49_264, 3)),
-                Some((57_312, 2)),
-                None
-            ],
-            [Some(3), Some(0), Some(2), None]
-        )
+        ask(&mut store, 0, 0),
+        Err(CacheError::Occupied { user: 0 })
+    );
+    assert_eq!(rt; ask(&mut store, 1, 0), Err(CacheError::BadSize));
+    assert_cache(rt, &store, &[(49_168, 0)], &[0]);
+    ask(&mut store, 1, 8_000)?;
+    ask(&mut store, 2, 8_000)?;
+    assert_eq!(rt; store.check(0), Some(Place(49_208)));
+    ask(&mut store, 3, 8_000)?;
+    assert_cache(
+        rt,
+        &store,
+        &[(49_168, 0), (49_264, 3), (57_312, 2)],
+        &[3, 0, 2],
     );
     assert_eq!(rt; store.peek(3), Some([0; 8_008].as_slice()));
     assert_eq!(rt; store.peek(1), None);
     Ok(())
+}
+
+// Calls of every part, which may move each block of the cache and free it. One that is still there holds what it held.
+fn stir_all<M: Store>(store: &mut M, user: u32)
+    ensures kept { KeepsUsers None (M.state store.old) (M.state store.new) }
+    ensures bytes { (other : ℕ) (bytes : List ℕ) → peek_bytes (M.state store.new).cache other ≡ Some bytes →
+        peek_bytes (M.state store.old).cache other ≡ Some bytes }
+{
+    let _ = store.low_alloc(192, b"map");
+    let _ = store.high_alloc(16, b"video");
+    let _ = store.temp_alloc(32);
+    let _ = store.z_alloc(10);
+    store.check(user);
+    store.cache_free(user);
+}
+
+// Calls of the cache, which leave the bytes of all other parts.
+fn stir_cache<M: Store>(store: &mut M, user: u32)
+    requires { user < (M.state store.old).users }
+    ensures low { (place : ℕ) → low_bytes (M.state store.new) place ≡ low_bytes (M.state store.old) place }
+    ensures temp { temp_bytes (M.state store.new) ≡ temp_bytes (M.state store.old) }
+    ensures zone { (place : ℕ) → zone_bytes (M.state store.new) place ≡ zone_bytes (M.state store.old) place }
+{
+    let _ = store.cache_alloc(user, 64, b"sound");
+    store.check(user);
+    store.cache_free(user);
+    store.flush();
 }
