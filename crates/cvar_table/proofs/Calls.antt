@@ -42,39 +42,35 @@ module _ (m : Memory) (places : List Place) (cvars : List Cvar) (name value : Li
       let is = set_cvar-missing m cvars name value (cvar_missing places name cvars view nowhere) in
       (record { answer = ap (λ (s : CvarSet). s.given.answer) is; after = sym (ap (λ (s : CvarSet). s.given.after) is) }, sym (ap (λ (s : CvarSet). s.cvars) is))
 
--- The cvars are held afterwards.
-pub holds_done : (m n : Memory) (cvars after : List Cvar) (name value : List ℕ) (reply : Result Bool ℕ) → Laid m → HoldsCvars m cvars → Answers (set_cvar m cvars name value).given reply n → after ≡ (set_cvar m cvars name value).cvars →
-    HoldsCvars n after
-holds_done m n cvars after name value reply laid holds given is =
-    rw (given.after, is) (HoldsCvars-set_cvar m cvars name value laid holds)
+-- After an answer the cvars are held, blocks beside theirs stay, and the other cvars read as before.
+module _ (m n : Memory) (cvars after : List Cvar) (name value : List ℕ) (reply : Result Bool ℕ) (laid : Laid m) (holds : HoldsCvars m cvars)
+    (given : Answers (set_cvar m cvars name value).given reply n) (is : after ≡ (set_cvar m cvars name value).cvars) where
+  pub holds_done : HoldsCvars n after
+  holds_done = rw (given.after, is) (HoldsCvars-set_cvar m cvars name value laid holds)
 
-pub holds_undone : (m n : Memory) (cvars : List Cvar) (name value : List ℕ) (frugal : Bool) (error : ZoneError) → Laid m → HoldsCvars m cvars → Gives (set_cvar m cvars name value).given frugal m (zone_told {A = Bool} (Err error)) n →
-    IfSome (zone_told {A = Bool} (Err error)) (λ told. cvars ≡ (set_cvar m cvars name value).cvars) → HoldsCvars n cvars
-holds_undone m n cvars name value frugal (zone_error.Full asked) laid holds given is = holds_done m n cvars cvars name value (Err asked) laid holds given is
-holds_undone m n cvars name value frugal zone_error.OutOfMemory laid holds ran_out is = rw ran_out.after holds
+  pub stay_done : OthersStay m n (places_of cvars) (places_of after)
+  stay_done = rw (given.after, is) (OthersStay-set_cvar m cvars name value laid holds)
 
--- Blocks beside theirs stay.
-pub stay_done : (m n : Memory) (cvars after : List Cvar) (name value : List ℕ) (reply : Result Bool ℕ) → Laid m → HoldsCvars m cvars → Answers (set_cvar m cvars name value).given reply n → after ≡ (set_cvar m cvars name value).cvars →
-    OthersStay m n (places_of cvars) (places_of after)
-stay_done m n cvars after name value reply laid holds given is = rw (given.after, is) (OthersStay-set_cvar m cvars name value laid holds)
+  pub others_done : OthersReadAlike m n cvars after name
+  others_done = λ other differ. rw (given.after, is) (cvar_value-set_other m cvars name value other laid holds differ)
 
-pub stay_undone : (m n : Memory) (cvars : List Cvar) (name value : List ℕ) (frugal : Bool) (error : ZoneError) → Laid m → HoldsCvars m cvars → Gives (set_cvar m cvars name value).given frugal m (zone_told {A = Bool} (Err error)) n →
-    IfSome (zone_told {A = Bool} (Err error)) (λ told. cvars ≡ (set_cvar m cvars name value).cvars) → OthersStay m n (places_of cvars) (places_of cvars)
-stay_undone m n cvars name value frugal (zone_error.Full asked) laid holds given is = stay_done m n cvars cvars name value (Err asked) laid holds given is
-stay_undone m n cvars name value frugal zone_error.OutOfMemory laid holds ran_out is = λ place bytes none there. (none, rw ran_out.after there)
+  -- What was set is read back.
+  pub read_done : IsText value → reply ≡ Ok true → cvar_value n after name ≡ Some value
+  read_done text set = rw (given.after, is) (cvar_value-set_cvar m cvars name value laid holds text (given.answer ∙ set))
 
--- What was set is read back, each other cvar as before,
-pub read_done : (m n : Memory) (cvars after : List Cvar) (name value : List ℕ) → Laid m → HoldsCvars m cvars → IsText value → Answers (set_cvar m cvars name value).given (Ok true) n → after ≡ (set_cvar m cvars name value).cvars →
-    cvar_value n after name ≡ Some value
-read_done m n cvars after name value laid holds text given is = rw (given.after, is) (cvar_value-set_cvar m cvars name value laid holds text given.answer)
+-- So it is after an error, where all cvars read as before.
+module _ (m n : Memory) (cvars : List Cvar) (name value : List ℕ) (frugal : Bool) (laid : Laid m) (holds : HoldsCvars m cvars) where
+  pub holds_undone : (error : ZoneError) → Gives (set_cvar m cvars name value).given frugal m (zone_told {A = Bool} (Err error)) n → IfSome (zone_told {A = Bool} (Err error)) (λ told. cvars ≡ (set_cvar m cvars name value).cvars) → HoldsCvars n cvars
+  holds_undone (zone_error.Full asked) given is = holds_done m n cvars cvars name value (Err asked) laid holds given is
+  holds_undone zone_error.OutOfMemory ran_out is = rw ran_out.after holds
 
-pub others_done : (m n : Memory) (cvars after : List Cvar) (name value : List ℕ) (reply : Result Bool ℕ) → Laid m → HoldsCvars m cvars → Answers (set_cvar m cvars name value).given reply n → after ≡ (set_cvar m cvars name value).cvars →
-    OthersReadAlike m n cvars after name
-others_done m n cvars after name value reply laid holds given is = λ other differ. rw (given.after, is) (cvar_value-set_other m cvars name value other laid holds differ)
+  pub stay_undone : (error : ZoneError) → Gives (set_cvar m cvars name value).given frugal m (zone_told {A = Bool} (Err error)) n → IfSome (zone_told {A = Bool} (Err error)) (λ told. cvars ≡ (set_cvar m cvars name value).cvars) →
+      OthersStay m n (places_of cvars) (places_of cvars)
+  stay_undone (zone_error.Full asked) given is = stay_done m n cvars cvars name value (Err asked) laid holds given is
+  stay_undone zone_error.OutOfMemory ran_out is = λ place bytes none there. (none, rw ran_out.after there)
 
--- and after a refusal all.
-pub read_undone : (m n : Memory) (cvars : List Cvar) (name value : List ℕ) (frugal : Bool) (error : ZoneError) → HoldsCvars m cvars → Gives (set_cvar m cvars name value).given frugal m (zone_told {A = Bool} (Err error)) n → ReadAlike m n cvars cvars
-read_undone m n cvars name value frugal (zone_error.Full asked) holds given =
-    let same = ap (λ (k : Memory). k.zone) given.after ∙ (set_cvar-refusal m cvars name value asked given.answer).1 in
-    λ own. cvar_value-kept m n cvars own (λ place bytes there. zone_bytes-same n m place same ∙ there) holds
-read_undone m n cvars name value frugal zone_error.OutOfMemory holds ran_out = λ own. rw ran_out.after refl
+  pub read_undone : (error : ZoneError) → Gives (set_cvar m cvars name value).given frugal m (zone_told {A = Bool} (Err error)) n → ReadAlike m n cvars cvars
+  read_undone (zone_error.Full asked) given =
+      let same = ap (λ (k : Memory). k.zone) given.after ∙ (set_cvar-refusal m cvars name value asked given.answer).1 in
+      λ own. cvar_value-kept m n cvars own (λ place bytes there. zone_bytes-same n m place same ∙ there) holds
+  read_undone zone_error.OutOfMemory ran_out = λ own. rw ran_out.after refl
