@@ -12,9 +12,6 @@ name_tells own name = tells (bytes_eq own name) refl where
   tells true is = inl (is, (bytes_eq-Decides own name).0 is)
   tells false is = inr (is, λ same. absurd (let passes = (bytes_eq-Decides own name).1 same in cc))
 
-pub same_name : (own name : List ℕ) → own ≡ name → bytes_eq own name ≡ true
-same_name own name same = (bytes_eq-Decides own name).1 same
-
 pub other_name : (own name : List ℕ) → own ≢ name → bytes_eq own name ≡ false
 other_name own name other = elim (name_tells own name) [
   | inl at ↦ absurd (other at.1)

@@ -1,5 +1,5 @@
 -- What an operation gives, case by case, where no event is kept.
-use Rattle.std.proofs.Common.{◌≡◌, ℕ, ◌+◌, ◌-◌, ◌<◌, ◌≤◌, List, [], ◌∷◌, ◌++◌, Option, Some, None, Result, Ok, Err, Bool, true, false, ltb, length, refl, sym, ap, ◌∙◌, arith, if◌then◌else◌, is_ok}
+use Rattle.std.proofs.Common.{◌≡◌, ℕ, ◌+◌, ◌-◌, ◌<◌, ◌≤◌, List, [], ◌∷◌, ◌++◌, Option, Some, None, Result, Ok, Err, Bool, true, false, ltb, length, refl, sym, ap, ◌∙◌, arith, if◌then◌else◌}
 use Rattle.std.specs.Prelude.{codes, slice_get, is_some, ◌≢◌}
 use Rattle.std.proofs.lemmas.Bool.{lt-ltb, le-ltb, eq-eqb, ne_eqb}
 use Rattle.mem_model.specs.Event.{Event, Shortage, Event.HighAlloc, FreeRefusal.NotZone, FreeRefusal.AlreadyFree, CacheRefusal.Occupied, CacheRefusal.BadSize, CacheRefusal.NoRoom}
@@ -114,10 +114,6 @@ unfolding high_free
 high_free_refused m base mark quiet is cut =
     let there : cut_from 0 (without_temp m).high mark ≡ None = ap (λ (n : Memory). cut_from 0 n.high mark) (sym is) ∙ cut in
     rw there (record { answer = refl; after = sym (with_event_none (without_temp m) _ (event_room-without_temp m ∙ quiet)) })
-
--- what a temporary allocation gives, by what the high one gave
-temp_given : Memory → Answered (Result ℕ Shortage) → Answered (Result ℕ Shortage)
-temp_given m given = record given { after = record given.after { temp = if is_ok given.answer then Some (high_used m) else None } }
 
 pub temp_alloc_taken : (m new : Memory) (size place : ℕ) → m.event_room ≡ 0 → Answers (high_taken (without_temp m) (round_up size 16) (codes "temp")) (Ok place) new →
     Answers (temp_alloc m size) (Ok place) (record new { temp = Some (high_used (without_temp m)) })

@@ -23,22 +23,10 @@ use Rattle.mem_model.proofs.Newest.{last_bytes-append, last_bytes-written, Laid-
 low-with_event : (m : Memory) (event : Event) → (with_event m event).low ≡ m.low
 low-with_event m event = elim (ltb (length m.events) m.event_room) as (λ t. (cond t (record m { events = m.events ++ event ∷ [] }) m).low ≡ m.low) [ true ↦ refl | false ↦ refl ]
 
-size-with_event : (m : Memory) (event : Event) → (with_event m event).size ≡ m.size
-size-with_event m event = elim (ltb (length m.events) m.event_room) as (λ t. (cond t (record m { events = m.events ++ event ∷ [] }) m).size ≡ m.size) [ true ↦ refl | false ↦ refl ]
-
 -- what an allocation gives, by whether the room is too small
 low_given : Memory → ℕ → List ℕ → Bool → Answered (Result ℕ Shortage)
 low_given m size name short =
     if short then record { answer = Err (shortage m (hunk_need size)); after = m } else record { answer = Ok (low_used m + 16); after = with_low m (hunk_block (hunk_need size) name) }
-
--- An allocation is refused exactly where its need exceeds the room.
-pub answer-low_alloc : (m : Memory) (size : ℕ) (name : List ℕ) → (low_alloc m size name).answer ≡ (if ltb (room m) (hunk_need size) then Err (shortage m (hunk_need size)) else Ok (low_used m + 16))
-unfolding low_alloc low_given
-answer-low_alloc m size name =
-    elim (ltb (room m) (hunk_need size)) as (λ short. (low_given m size name short).answer ≡ (if short then Err (shortage m (hunk_need size)) else Ok (low_used m + 16))) [
-      | true ↦ refl
-      | false ↦ refl
-    ]
 
 -- the low list after an allocation
 pub low-low_alloc : (m : Memory) (size place : ℕ) (name : List ℕ) → (low_alloc m size name).answer ≡ Ok place →
@@ -50,16 +38,6 @@ low-low_alloc m size place name =
       | false ↦ λ h. (low-with_event (with_low m (hunk_block (hunk_need size) name)) _, cc)
     ]
 
--- A refused allocation tells its need and the room, and leaves the low list.
-pub low_alloc-refusal : (m : Memory) (size : ℕ) (name : List ℕ) (told : Shortage) → (low_alloc m size name).answer ≡ Err told →
-    (told ≡ shortage m (hunk_need size)) × ((low_alloc m size name).after.low ≡ m.low)
-unfolding low_alloc with_low low_given
-low_alloc-refusal m size name told =
-    elim (ltb (room m) (hunk_need size)) as (λ short. (low_given m size name short).answer ≡ Err told → (told ≡ shortage m (hunk_need size)) × ((noted (low_given m size name short) (LowAlloc size)).after.low ≡ m.low)) [
-      | true ↦ λ h. (cc, low-with_event m _)
-      | false ↦ λ h. absurd (cc)
-    ]
-
 -- An allocation adds a block or leaves the list.
 low-low_alloc_cases : (m : Memory) (size : ℕ) (name : List ℕ) →
     ((low_alloc m size name).after.low ≡ m.low) ⊎ ((low_alloc m size name).after.low ≡ m.low ++ hunk_block (hunk_need size) name ∷ [])
@@ -68,15 +46,6 @@ low-low_alloc_cases m size name =
     elim (ltb (room m) (hunk_need size)) as (λ short. ((noted (low_given m size name short) (LowAlloc size)).after.low ≡ m.low) ⊎ ((noted (low_given m size name short) (LowAlloc size)).after.low ≡ m.low ++ hunk_block (hunk_need size) name ∷ [])) [
       | true ↦ inl (low-with_event m _)
       | false ↦ inr (low-with_event (with_low m (hunk_block (hunk_need size) name)) _)
-    ]
-
--- The arena keeps its size.
-pub size-low_alloc : (m : Memory) (size : ℕ) (name : List ℕ) → (low_alloc m size name).after.size ≡ m.size
-unfolding low_alloc with_low low_given
-size-low_alloc m size name =
-    elim (ltb (room m) (hunk_need size)) as (λ short. (noted (low_given m size name short) (LowAlloc size)).after.size ≡ m.size) [
-      | true ↦ size-with_event m _
-      | false ↦ size-with_event (with_low m (hunk_block (hunk_need size) name)) _
     ]
 
 bytes_from-append : (start : ℕ) (blocks others : List HunkBlock) (place : ℕ) (bytes : List ℕ) → bytes_from start blocks place ≡ Some bytes → bytes_from start (blocks ++ others) place ≡ Some bytes

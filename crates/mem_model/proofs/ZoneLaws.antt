@@ -126,14 +126,6 @@ length-z_new m size place bytes laid h there =
     let same : replicate new.0 0 ≡ bytes = cc in
     omega (arith, new.1, ap length same, length-replicate {A = ℕ} new.0 0)
 
--- They are zero.
-pub zero-z_new : (m : Memory) (size place : ℕ) (bytes : List ℕ) → Laid m → (z_alloc m size).answer ≡ Ok place → zone_bytes (z_alloc m size).after place ≡ Some bytes → bytes ≡ replicate (length bytes) 0
-zero-z_new m size place bytes laid h there =
-    let new = zone_bytes-new m size place laid h in
-    let both : Some (replicate new.0 0) ≡ Some bytes = sym new.2 ∙ there in
-    let same : replicate new.0 0 ≡ bytes = cc in
-    sym same ∙ ap (λ n. replicate n 0) (sym (length-replicate {A = ℕ} new.0 0) ∙ ap length same)
-
 apart-bytes : (z after : Zone) (need place size : ℕ) → IsZone z size → IsGrant z after need place → used_bytes_from 48 z.blocks place ≡ None
 apart-bytes z after need place size zone g =
     let front = take g.i z.blocks in
@@ -212,23 +204,6 @@ pub zone_bytes-small : (m : Memory) (place : ℕ) (bytes : List ℕ) → Laid m 
 unfolding zone_bytes
 zone_bytes-small m place bytes laid h =
     omega (arith, inside-bytes 48 m.zone.blocks place bytes laid.zone.blocks h, laid.zone.tiles, first_below m.low, laid.inside, laid.small)
-
-refused_at : (m : Memory) (place i : ℕ) (o : Option ZoneBlock) (told : FreeRefusal) → (z_freed_at m place i o).answer ≡ Err told → (z_freed_at m place i o).after.zone ≡ m.zone
-unfolding freed_given
-refused_at m place i None told h = refl
-refused_at m place i (Some b) told h = elim b.used as (λ used. (freed_given m place i used).answer ≡ Err told → (freed_given m place i used).after.zone ≡ m.zone) [
-  | true ↦ λ e. absurd (cc)
-  | false ↦ λ e. refl
-] h
-
-refused_free : (m : Memory) (place : ℕ) (o : Option ℕ) (told : FreeRefusal) → (z_freed m place o).answer ≡ Err told → (z_freed m place o).after.zone ≡ m.zone
-refused_free m place None told h = refl
-refused_free m place (Some i) told h = refused_at m place i (slice_get m.zone.blocks i) told h
-
--- A refused freeing leaves the zone.
-pub z_free-refusal : (m : Memory) (place : ℕ) (told : FreeRefusal) → (z_free m place).answer ≡ Err told → (z_free m place).after.zone ≡ m.zone
-unfolding z_free
-z_free-refusal m place told h = zone-with_event _ _ ∙ refused_free m place (position_of m.zone.blocks place) told h
 
 -- A used block stays used where one is written.
 pub some-with_zone_bytes : (m : Memory) (place other : ℕ) (bytes : List ℕ) → IsSome (zone_bytes m other) → IsSome (zone_bytes (with_zone_bytes m place bytes) other)

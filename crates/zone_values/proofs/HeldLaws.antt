@@ -1,5 +1,5 @@
 -- Laws of places that are held: what keeps each of them used, and no two the same.
-use Rattle.std.proofs.Common.{◌≡◌, ◌≢◌, ℕ, List, [], ◌∷◌, ◌++◌, Some, Ok, refl, sym, ap, ◌∙◌}
+use Rattle.std.proofs.Common.{◌≡◌, ℕ, List, [], ◌∷◌, ◌++◌, Some, Ok, refl, sym, ap, ◌∙◌}
 use Rattle.std.specs.Prelude.{IsSome}
 use Rattle.std.specs.Option.{option_map}
 use Rattle.base_fields.specs.Texts.{until_zero}
@@ -35,14 +35,6 @@ AreHeld-kept m n places kept held = record { used = AreUsed-kept m n places kept
 -- also where the zone is the same.
 pub AreHeld-same : (m n : Memory) (places : List ℕ) → n.zone ≡ m.zone → AreHeld m places → AreHeld n places
 AreHeld-same m n places same held = record { used = AreUsed-same m n places same held.used; apart = held.apart }
-
--- They stay held where all but one used block keep their bytes, and that one is none of theirs.
-pub AreHeld-beside : (m n : Memory) (place : ℕ) (places : List ℕ) → ((other : ℕ) (bytes : List ℕ) → other ≢ place → zone_bytes m other ≡ Some bytes → zone_bytes n other ≡ Some bytes) →
-    NoneIs place places → AreHeld m places → AreHeld n places
-AreHeld-beside m n place places kept none held = record { used = beside places none held.used; apart = held.apart } where
-  beside : (others : List ℕ) → NoneIs place others → AreUsed m others → AreUsed n others
-  beside [] none used = tt
-  beside (other ∷ others) none used = (some-kept m n other (λ bytes there. kept other bytes none.0 there) used.0, beside others none.1 used.1)
 
 -- The calls of the zone: an allocation leaves them held,
 pub AreHeld-z_alloc : (m : Memory) (size : ℕ) (places : List ℕ) → Laid m → AreHeld m places → AreHeld (z_alloc m size).after places
