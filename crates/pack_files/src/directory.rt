@@ -45,8 +45,7 @@ pub(crate) fn row_count(header: &[u8; 12]) -> u32
 
 // The name in a row.
 fn name_in(row: &[u8; 64]) -> &[u8]
-    ensures name { result.now ≡ (row_of row.now).name }
-    ensures short { length result.now ≤ 56 }
+    ensures { result.now ≡ (row_of row.now).name }
 {
     before_zero(&row[..56])
 }
@@ -70,7 +69,7 @@ pub(crate) fn first_entries(
 {
     let mut entries = IndexMap::with_capacity(alloc, rows.len())?;
     for row in rows {
-        let name = Name::from_bytes(name_in(row));
+        let name = Name::from_bytes(alloc, name_in(row))?;
         entries.entry(name)?.or_insert(entry_in(row));
     }
     Ok(entries)
