@@ -1,6 +1,6 @@
 -- How a run ends by a fault.
 use Prim.Native.Nat.{zero, suc}
-use Rattle.std.proofs.Common.{Bool, ◌≤◌, ◌≡◌, ◌+◌, ◌-◌, ◌∙◌, ℕ, List, [], ◌∷◌, length, map, drop, Option, Some, None, IfSome, Result, Ok, Err, IsOkAnd, inr, refl, sym, subst, ap, arith}
+use Rattle.std.proofs.Common.{Bool, ◌≤◌, ◌≡◌, ◌+◌, ◌-◌, ◌∙◌, ℕ, List, [], ◌∷◌, length, map, drop, Option, Some, None, IfSome, IfErr, Result, Ok, Err, IsOkAnd, inr, refl, sym, subst, ap, arith}
 use Rattle.std.specs.Prelude.{slice_get, slice_index, option_map}
 use Rattle.std.proofs.lemmas.List.{length-map, length-drop}
 use Rattle.std.proofs.lemmas.Option.{slice_get-map, get_or_from_slice_get}
@@ -16,63 +16,54 @@ use Rattle.console_session.specs.States.{State, PathSeen, CauseOf}
 use Rattle.console_session.specs.Serving.{path_of}
 use Rattle.console_core.proofs.Knowing.{if_some, at_some}
 use Rattle.command_line.specs.declared.words.Request.{Request}
-use Rattle.console_core.specs.Ends.{first_state, path_on, told_state, IsPathOf, IsCutAt, RunEnds, OnPath, HandsOver, HandsBack, IsFailedFolder, IsFaultOf}
+use Rattle.console_session.specs.Sessions.{told_end}
+use Rattle.console_session.specs.declared.ends.StepEnd.{StepEnd}
+use Rattle.console_session.specs.declared.ends.StepEnd.TheVariants as step
+use Rattle.console_core.specs.Outside.{Outside}
+use Rattle.console_core.specs.Ends.{first_state, path_on, told_state, IsPathOf, IsCutAt, RunEnds, OnPath, HandsOver, HandsBack, IsFailedFolder, IsStatusOf}
 use Rattle.console_session.specs.declared.ends.Fault.{Fault}
 use Rattle.console_session.specs.declared.ends.Fault.TheVariants as fault
 use Rattle.console_core.specs.declared.status.Status.{Status}
 use Rattle.console_core.specs.declared.status.Status.TheVariants.{Done, OutOfMemory, BadPack, ScriptFault, FolderFault, WriteFault, ScriptTooLong}
 
-module _ {F : Type 0} (status : Status F) (request : Request) (files : F → Option (List File)) (faults : F → ℕ) (told_now : List (Option (List File))) (counts : List ℕ)
-    (first : Option State) (rest_before rest_now start now : Option (List ℕ)) where
-  pub ends_fault : (fault : Fault) → IsFaultOf fault request.first files faults told_now counts status → IsCutAt fault first rest_before rest_now start now
-      → RunEnds first request.first rest_before rest_now start now status
-  ends_fault (fault.Folder number) is cut =
-      let back : number ≡ request.first + number - request.first = omega arith in
-      subst (λ s. RunEnds first request.first rest_before rest_now start now s) (sym is.1)
-      (subst (λ n. IsCutAt (fault.Folder n) first rest_before rest_now start now) back cut)
-  ends_fault fault.Write is cut = subst (λ s. RunEnds first request.first rest_before rest_now start now s) (sym is) cut
-  ends_fault fault.Memory is cut = subst (λ s. RunEnds first request.first rest_before rest_now start now s) (sym is) cut
-
--- a cause after others is one of all
-pub cause_later : (frugal : Bool) (before mid counts : List ℕ) (sink_before sink_mid sink_now : ℕ) (fault : Fault) → NoneFalls before mid → length mid ≡ length before → sink_before ≤ sink_mid
-    → CauseOf frugal mid counts sink_mid sink_now fault → CauseOf frugal before counts sink_before sink_now fault
-cause_later frugal before mid counts sink_before sink_mid sink_now (fault.Folder number) falls same sinks cause = (omega (arith, cause.0, same), omega (arith, falls number, cause.1))
-cause_later frugal before mid counts sink_before sink_mid sink_now fault.Write falls same sinks cause = omega (arith, sinks, cause)
-cause_later frugal before mid counts sink_before sink_mid sink_now fault.Memory falls same sinks cause = cause
-
--- what a fault hands over, where its count rose
-pub hands_over : {F : Type 0} (status : Status F) (first : ℕ) (files : F → Option (List File)) (faults : F → ℕ) (told : List (Option (List File))) (frugal : Bool) (before counts : List ℕ) (sink_before sink_now : ℕ) (fault : Fault)
-    → CauseOf frugal before counts sink_before sink_now fault → IsFaultOf fault first files faults told counts status → HandsOver first files faults told before status
-hands_over status first files faults told frugal before counts sink_before sink_now (fault.Folder number) cause is =
+-- what is handed over, where a fault has its cause
+pub hands_over : {F : Type 0} (status : Status F) (first : ℕ) (files : F → Option (List File)) (faults : F → ℕ) (told : List (Option (List File))) (frugal : Bool) (before counts : List ℕ) (sink_before sink_now : ℕ) (end : StepEnd)
+    → IfErr (told_end end) (λ fault. CauseOf frugal before counts sink_before sink_now fault) → IsStatusOf end first files faults told counts status → HandsOver first files faults told before status
+hands_over status first files faults told frugal before counts sink_before sink_now (step.FolderFault number) cause is =
     let count : slice_index counts number ≡ faults is.0 = get_or_from_slice_get counts number (faults is.0) 0 is.3 in
     subst (λ s. HandsOver first files faults told before s) (sym is.1) (number, refl, is.2, subst (λ n. Rose (slice_index before number) n) count cause.1)
-hands_over status first files faults told frugal before counts sink_before sink_now fault.Write cause is = subst (λ s. HandsOver first files faults told before s) (sym is) tt
-hands_over status first files faults told frugal before counts sink_before sink_now fault.Memory cause is = subst (λ s. HandsOver first files faults told before s) (sym is) tt
+hands_over status first files faults told frugal before counts sink_before sink_now step.Went cause is = subst (λ s. HandsOver first files faults told before s) (sym is) tt
+hands_over status first files faults told frugal before counts sink_before sink_now step.Quit cause is = subst (λ s. HandsOver first files faults told before s) (sym is) tt
+hands_over status first files faults told frugal before counts sink_before sink_now step.WriteFault cause is = subst (λ s. HandsOver first files faults told before s) (sym is) tt
+hands_over status first files faults told frugal before counts sink_before sink_now step.OutOfMemory cause is = subst (λ s. HandsOver first files faults told before s) (sym is) tt
 
-module _ {F : Type 0} (request : Request) (rest_before rest_now start now : Option (List ℕ)) where
+unknown_cut : (before now : Outside) (fault : Fault) (first : Option State) → IsCutAt fault first before now → IsCutAt fault None before now
+unknown_cut before now fault first cut = record { taken = cut.taken; took = cut.took; size = cut.size; put = tt; held = inr tt }
+
+module _ {F : Type 0} (request : Request) (event_room : ℕ) (before now : Outside) where
   -- what is so of a run from a known state is so where nothing is known of it
-  unknown_state : (first : Option State) (status : Status F) → RunEnds first request.first rest_before rest_now start now status → RunEnds None request.first rest_before rest_now start now status
+  unknown_state : (first : Option State) (status : Status F) → RunEnds first request.first before now status → RunEnds None request.first before now status
   unknown_state first Done ends = record { taken = ends.taken; took = ends.took; size = ends.size; put = tt; all = inr tt }
-  unknown_state first OutOfMemory ends = record { taken = ends.taken; took = ends.took; size = ends.size; put = tt }
+  unknown_state first OutOfMemory ends = unknown_cut before now fault.Memory first ends
   unknown_state first ScriptFault ends = record { taken = ends.taken; took = ends.took; size = ends.size; put = tt }
-  unknown_state first (FolderFault word folder) ends = record { taken = ends.taken; took = ends.took; size = ends.size; put = tt }
-  unknown_state first WriteFault ends = record { taken = ends.taken; took = ends.took; size = ends.size; put = tt }
+  unknown_state first (FolderFault word folder) ends = (ends.0, ends.1, unknown_cut before now (fault.Folder ends.0) first ends.2)
+  unknown_state first WriteFault ends = unknown_cut before now fault.Write first ends
   unknown_state first ScriptTooLong ends = record { taken = ends.taken; took = ends.took; size = ends.size; put = tt }
   unknown_state first status ends = ends
 
   -- a run on the path of the folders
-  pub ends_on_path : (told : Option (List (List File))) (first : Option State) (status : Status F) → IfSome told (λ folders. IsOkAnd (mounted folders) (λ ms. first ≡ Some (first_state request (path_on folders ms))))
-      → RunEnds first request.first rest_before rest_now start now status → OnPath told (λ path. RunEnds (option_map (first_state request) path) request.first rest_before rest_now start now status)
+  pub ends_on_path : (told : Option (List (List File))) (first : Option State) (status : Status F) → IfSome told (λ folders. IsOkAnd (mounted folders) (λ ms. first ≡ Some (first_state request event_room (path_on folders ms))))
+      → RunEnds first request.first before now status → OnPath told (λ path. RunEnds (option_map (first_state request event_room) path) request.first before now status)
   ends_on_path None first status is ends = unknown_state first status ends
   ends_on_path (Some folders) first status is ends = by (mounted folders) refl is
     where
-      by : (path : Result (List Mount) BadPackOf) → mounted folders ≡ path → IsOkAnd path (λ ms. first ≡ Some (first_state request (path_on folders ms)))
-          → OnPath (Some folders) (λ path. RunEnds (option_map (first_state request) path) request.first rest_before rest_now start now status)
-      by (Ok ms) path_is same = (ms, path_is, subst (λ (s : Option State). RunEnds s request.first rest_before rest_now start now status) same ends)
+      by : (path : Result (List Mount) BadPackOf) → mounted folders ≡ path → IsOkAnd path (λ ms. first ≡ Some (first_state request event_room (path_on folders ms)))
+          → OnPath (Some folders) (λ path. RunEnds (option_map (first_state request event_room) path) request.first before now status)
+      by (Ok ms) path_is same = (ms, path_is, subst (λ (s : Option State). RunEnds s request.first before now status) same ends)
       by (Err bad) path_is same = absurd same
 
 -- The state from which a run on a path of folders that tell their files starts.
-module _ {F : Type 0} (folder : FolderGhosts F) (held : List F) (path : PathState F) (request : Request) (opened : IsPathOf folder.files folder.folder_faults held path) where
+module _ {F : Type 0} (folder : FolderGhosts F) (held : List F) (path : PathState F) (request : Request) (event_room : ℕ) (opened : IsPathOf folder.files folder.folder_faults held path) where
   seen_path : (folders : List (List File)) (ms : List Mount) → all_some (map folder.files held) ≡ Some folders → mounts_of folder.files path ≡ Some ms → path_of folder path ≡ path_on folders ms
   seen_path folders ms told there =
       let seen_of : List MountRow → List (Option Mount) → List (Option (List File)) → PathSeen = λ (rows : List MountRow) (mounts : List (Option Mount)) (told : List (Option (List File))). record { rows = rows; mounts = mounts; told = told } in
@@ -83,16 +74,16 @@ module _ {F : Type 0} (folder : FolderGhosts F) (held : List F) (path : PathStat
       ∙ ap (λ m. seen_of (map (λ mount. mount.row) ms) m (told_of folder.files path)) mounts_is
       ∙ ap (λ t. seen_of (map (λ mount. mount.row) ms) (map Some ms) t) told_is
 
-  pub starts_on_path : (s : State) → s ≡ first_state request (path_of folder path)
-      → IfSome (all_some (map folder.files held)) (λ folders. IsOkAnd (mounted folders) (λ ms. told_state s ≡ Some (first_state request (path_on folders ms))))
+  pub starts_on_path : (s : State) → s ≡ first_state request event_room (path_of folder path)
+      → IfSome (all_some (map folder.files held)) (λ folders. IsOkAnd (mounted folders) (λ ms. told_state s ≡ Some (first_state request event_room (path_on folders ms))))
   starts_on_path s is = if_some (all_some (map folder.files held)) (λ folders told. by folders told (mounted folders) (at_some (λ given. IsOkAnd (mounted given) (λ mounts. mounts_of folder.files path ≡ Some mounts)) (all_some (map folder.files held)) folders told opened.mounts))
     where
       by : (folders : List (List File)) → all_some (map folder.files held) ≡ Some folders → (given : Result (List Mount) BadPackOf) → IsOkAnd given (λ mounts. mounts_of folder.files path ≡ Some mounts)
-          → IsOkAnd given (λ ms. told_state s ≡ Some (first_state request (path_on folders ms)))
+          → IsOkAnd given (λ ms. told_state s ≡ Some (first_state request event_room (path_on folders ms)))
       by folders told (Ok ms) there =
           ap told_state is
-          ∙ ap (λ (all : Option (List Mount)). option_map (λ mounts. first_state request (path_of folder path)) all) there
-          ∙ ap (λ p. Some (first_state request p)) (seen_path folders ms told there)
+          ∙ ap (λ (all : Option (List Mount)). option_map (λ mounts. first_state request event_room (path_of folder path)) all) there
+          ∙ ap (λ p. Some (first_state request event_room p)) (seen_path folders ms told there)
       by folders told (Err bad) there = absurd there
 
 get_later : {X : Type 0} (xs : List X) (first number : ℕ) → slice_get (drop first xs) number ≡ slice_get xs (first + number)

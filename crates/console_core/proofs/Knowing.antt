@@ -5,12 +5,13 @@ use Rattle.outside_io.specs.Streams.{Adds}
 use Rattle.search_paths.specs.Mounts.{Mount}
 use Rattle.search_paths.specs.Path.{all_some}
 use Rattle.search_paths.proofs.FindLaws.{each_is_there}
-use Rattle.console_session.specs.States.{State, Reply}
+use Rattle.console_session.specs.States.{State, Reply, StillPut}
 use Rattle.console_session.specs.Frames.{Ran, stopped, texts, line, finish, IsCutShort, Runs}
 use Rattle.console_session.specs.declared.ends.Fault.{Fault}
 use Rattle.console_session.proofs.Knowing.{AllTold, KnowsEnd, frame_knows, line_knows, whole_run, cut_run}
 use Rattle.console_core.specs.Runs.{go_on, behind, followed, quit_at, run_lines, lines_of, last_line, rest_run, run}
-use Rattle.console_core.specs.Ends.{told_state, LinesWerePut}
+use Rattle.console_core.specs.Reading.{RanEarlier}
+use Rattle.console_core.specs.Ends.{told_state, LinesWerePut, LinesWereRun, IsInLastPiece}
 
 -- what holds of every value that is there
 pub if_some : {X : Type 0} {P : X → Type 0} (o : Option X) → ((x : X) → o ≡ Some x → P x) → IfSome o P
@@ -62,19 +63,19 @@ of_told P s each = by (all_some s.path.mounts) refl
     by (Some mounts) is = each mounts (each_is_there s.path.mounts mounts is)
 
 module _ (first new : State) (start now : Option (List ℕ)) where
-  -- whether the lines quit
-  pub lines_quit : (lines : List (List ℕ)) (quit : Bool) → Runs (run_lines first lines) (Ok quit) new start now → IfSome (told_state first) (λ s. quit_at (run_lines s lines).end ≡ Some quit)
-  lines_quit lines quit runs = of_told _ first (λ mounts told.
-      let known = lines_know lines first mounts told in
-      ap quit_at known.is ∙ ap Some (whole_run first (run_lines first lines) known quit new start now runs).quit)
-
-  -- all of their replies were put
-  pub lines_put : (bytes : List ℕ) → Runs (run_lines first (lines_of bytes).whole) (Ok false) new start now → IfSome (told_state first) (λ s. LinesWerePut s bytes start now)
-  lines_put bytes runs = of_told _ first (λ mounts told.
+  -- all replies over the lines were put
+  lines_whole : (bytes : List ℕ) (mounts : List Mount) → AllTold first mounts → Runs (run_lines first (lines_of bytes).whole) (Ok false) new start now → LinesWerePut first bytes start now
+  lines_whole bytes mounts told runs =
       let lines = (lines_of bytes).whole in
       let known = lines_know lines first mounts told in
       let whole = whole_run first (run_lines first lines) known false new start now runs in
-      record { quit = ap quit_at known.is ∙ ap Some whole.quit; put = whole.put })
+      record { quit = ap quit_at known.is ∙ ap Some whole.quit; put = whole.put }
+
+  pub lines_put : (bytes : List ℕ) → Runs (run_lines first (lines_of bytes).whole) (Ok false) new start now → IfSome (told_state first) (λ s. LinesWerePut s bytes start now)
+  lines_put bytes runs = of_told _ first (λ mounts told. lines_whole bytes mounts told runs)
+
+  pub lines_ran : (bytes : List ℕ) (last : Option (List ℕ)) → Runs (run_lines first (lines_of bytes).whole) (Ok false) new start now → StillPut now last → IfSome (told_state first) (λ s. LinesWereRun s bytes start last)
+  lines_ran bytes last runs more = of_told _ first (λ mounts told. record { mid = now; lines = lines_whole bytes mounts told runs; more = more })
 
   -- the run over the whole script was put, or cut short
   pub script_put : (script : Option (List ℕ)) (quit : Bool) → IfSome script (λ bytes. Runs (run first bytes) (Ok quit) new start now)
@@ -86,3 +87,27 @@ module _ (first new : State) (start now : Option (List ℕ)) where
       → IfSome (told_state first) (λ s. IfSome script (λ bytes. IsCutShort (run s bytes).replies fault start now))
   script_cut None fault runs = of_told _ first (λ mounts told. tt)
   script_cut (Some bytes) fault runs = of_told _ first (λ mounts told. cut_run first (run first bytes) (run_knows bytes first mounts told) fault new start now runs)
+
+module _ (first new : State) (taken : List ℕ) (start now : Option (List ℕ)) (earlier : RanEarlier first taken start now) where
+  last_piece : (mounts : List Mount) → AllTold first mounts → IsInLastPiece first taken start now
+  last_piece mounts told = record {
+    earlier = earlier.earlier;
+    piece = earlier.piece;
+    is = earlier.is;
+    short = earlier.short;
+    ran = record { mid = earlier.mid; lines = lines_whole first earlier.after start earlier.mid earlier.earlier mounts told earlier.run; more = earlier.more };
+  }
+
+  -- a line of the last piece quit
+  pub lines_quit : Runs (run_lines first (lines_of taken).whole) (Ok true) new start now
+      → IfSome (told_state first) (λ s. (quit_at (run_lines s (lines_of taken).whole).end ≡ Some true) × IsInLastPiece s taken start now)
+  lines_quit runs = of_told _ first (λ mounts told.
+      let known = lines_know (lines_of taken).whole first mounts told in
+      (ap quit_at known.is ∙ ap Some (whole_run first (run_lines first (lines_of taken).whole) known true new start now runs).quit, last_piece mounts told))
+
+  -- a fault ended a line of the last piece
+  pub lines_cut : (fault : Fault) → Runs (run_lines first (lines_of taken).whole) (Err fault) new start now
+      → IfSome (told_state first) (λ s. IsCutShort (run_lines s (lines_of taken).whole).replies fault start now × IsInLastPiece s taken start now)
+  lines_cut fault runs = of_told _ first (λ mounts told.
+      let known = lines_know (lines_of taken).whole first mounts told in
+      (cut_run first (run_lines first (lines_of taken).whole) known fault new start now runs, last_piece mounts told))

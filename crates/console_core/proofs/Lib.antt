@@ -6,3 +6,5 @@ pub mod Completing
 pub mod Faulting
 pub mod PathOf
 pub mod Flushing
+pub mod Newlines
+pub mod Ending

@@ -1,21 +1,21 @@
 -- Folders that are mounted one after another.
 use Prim.Native.Nat.{zero, suc}
-use Rattle.std.proofs.Common.{◌≡◌, ◌+◌, ◌≤◌, ◌<◌, ℕ, List, [], ◌∷◌, ◌++◌, length, map, Option, Some, None, IfSome, IsOkAnd, Result, Ok, Err, refl, sym, ◌∙◌, ap, subst, arith, inl, inr, ◌-◌, take}
-use Rattle.std.specs.Prelude.{slice_get, slice_index, option_map, ◌⊎◌, IsErrOf, IsOk}
+use Rattle.std.proofs.Common.{◌≡◌, ◌+◌, ◌≤◌, ◌<◌, ℕ, List, [], ◌∷◌, ◌++◌, length, map, Option, Some, None, IfSome, IsOkAnd, Result, Ok, Err, refl, sym, ◌∙◌, ap, subst, arith, inl, inr, take}
+use Rattle.std.specs.Prelude.{slice_get, slice_index, option_map, ◌⊎◌, IsErrOf, IsErr, IsOk}
 use Rattle.std.proofs.Math.Seq.{take-append_seam}
 use Rattle.std.proofs.lemmas.List.{length-append, length-map, map-append, map_push}
 use Rattle.outside_io.specs.Causes.{Rose}
 use Rattle.outside_io.specs.Files.{File}
 use Rattle.search_paths.specs.Answers.{IsMounted, IsOfFolder}
 use Rattle.search_paths.specs.Counts.{NoneFalls}
-use Rattle.search_paths.specs.Mounts.{Mount, BadPack, own_mounts, with_folders, mounted, result_and_then}
+use Rattle.search_paths.specs.Mounts.{Mount, BadPack, bad_pack, own_mounts, with_folders, mounted, result_and_then}
 use Rattle.search_paths.specs.Path.{PathState, all_some, counts_of, told_mounts, mounts_of, AddsFolder}
 use Rattle.search_paths.specs.declared.answers.MountError.{MountError}
 use Rattle.search_paths.specs.declared.answers.MountError.TheVariants as error
 use Rattle.search_paths.proofs.FindLaws.{each_is_there}
 use Rattle.search_paths.proofs.MountLaws.{with_folders-append, mounts-mounted}
 use Rattle.console_core.proofs.Knowing.{if_some, at_some}
-use Rattle.console_core.specs.Ends.{IsPathOf, IsOpened, IsUnopened, OpeningEnds, HandsOver}
+use Rattle.console_core.specs.Ends.{IsPathOf, IsOpened, IsUnopened, OpeningEnds, HandsOver, HaveNoBadPack, IsFirstBadPack}
 use Rattle.console_core.specs.declared.status.Status.{Status}
 use Rattle.console_core.specs.declared.status.Status.TheVariants.{FolderFault, TooSmall}
 
@@ -54,6 +54,38 @@ head_of {X} (Some x) os all is = by (all_some os) refl is
     by : (rest : Option (List X)) → all_some os ≡ rest → option_map (λ rest. x ∷ rest) rest ≡ Some all → Head (Some x) os all
     by None known same = cc
     by (Some rest) known same = let here : x ∷ rest ≡ all = cc (same) in record { one = x; rest = rest; there = refl; back = known; is = sym here }
+
+-- one more folder without a bad pack
+good_push : (number : ℕ) (told : List (Option (List File))) (last : Option (List File)) → HaveNoBadPack number told → IfSome last (λ files. IsOk (own_mounts (number + length told) files)) → HaveNoBadPack number (told ++ last ∷ [])
+good_push number [] last good own = (subst (λ n. IfSome last (λ files. IsOk (own_mounts n files))) (omega arith) own, tt)
+good_push number (first ∷ told) last good own = (good.0, good_push (number + 1) told last good.1 (subst (λ n. IfSome last (λ files. IsOk (own_mounts n files))) (omega arith) own))
+
+-- where one folder has a bad pack, the folders have no mounts
+bad_own : (number : ℕ) (files : List File) (more : List (List File)) (mounts : List Mount) (bad : BadPack) → own_mounts number files ≡ Err bad → IsErr (with_folders number (files ∷ more) mounts)
+bad_own number files more mounts bad is =
+    let none : with_folders number (files ∷ more) mounts ≡ Err bad = ap (λ (own : Result (List Mount) BadPack). result_and_then own (λ ms. with_folders (number + 1) more (ms ++ mounts))) is in
+    rw none refl
+
+module _ (bad : BadPack) where
+  bad_later : (own : Result (List Mount) BadPack) (next : List Mount → Result (List Mount) BadPack) → ((ms : List Mount) → IsErr (next ms)) → IsErr (result_and_then own next)
+  bad_later (Ok ms) next each = each ms
+  bad_later (Err other) next each = refl
+
+  pub bad_folders : (number at : ℕ) (told : List (Option (List File))) (folders : List (List File)) (mounts : List Mount) (files : Option (List File)) → all_some told ≡ Some folders → slice_get told at ≡ Some files
+      → IfSome files (λ all. own_mounts (number + at) all ≡ Err bad) → IsErr (with_folders number folders mounts)
+  bad_folders number at [] folders mounts files all is own = cc
+  bad_folders number zero (first ∷ told) folders mounts files all is own =
+      let head = head_of first told folders all in
+      let same : first ≡ files = cc (is) in
+      let bad_is : own_mounts (number + 0) head.one ≡ Err bad = at_some (λ all. own_mounts (number + 0) all ≡ Err bad) files head.one (sym same ∙ head.there) own in
+      let here : number + 0 ≡ number = omega arith in
+      subst (λ l. IsErr (with_folders number l mounts)) (sym head.is) (bad_own number head.one head.rest mounts bad (ap (λ n. own_mounts n head.one) (sym here) ∙ bad_is))
+  bad_folders number (suc at) (first ∷ told) folders mounts files all is own =
+      let head = head_of first told folders all in
+      let later : number + suc at ≡ (number + 1) + at = omega arith in
+      subst (λ l. IsErr (with_folders number l mounts)) (sym head.is)
+      (bad_later (own_mounts number head.one) (λ ms. with_folders (number + 1) head.rest (ms ++ mounts))
+      (λ ms. bad_folders (number + 1) at told head.rest (ms ++ mounts) files head.back is (subst (λ n. IfSome files (λ all. own_mounts n all ≡ Err bad)) later own)))
 
 -- one more count
 falls_push : (xs ys : List ℕ) (a b : ℕ) → length xs ≡ length ys → NoneFalls xs ys → a ≤ b → NoneFalls (xs ++ a ∷ []) (ys ++ b ∷ [])
@@ -94,6 +126,9 @@ module _ {F : Type 0} (files_of : F → Option (List File)) (faults_of calls_of 
         let old_is = map_push faults_of held folder in
         let new_is = ap (map faults_of) added.last ∙ map_push faults_of before.folders added.now in
         subst (λ l. NoneFalls l (counts_of faults_of after)) (sym old_is) (subst (λ l. NoneFalls (map faults_of held ++ faults_of folder ∷ []) l) (sym new_is) pushed);
+    good = subst (HaveNoBadPack 0) (sym (map_push files_of held folder)) (good_push 0 (map files_of held) (files_of folder) opened.good
+        (subst (λ n. IfSome (files_of folder) (λ files. IsOk (own_mounts n files))) (omega (arith, held_length, length-map held files_of)) (if_some (files_of folder) (λ files is.
+            ok_mounted (own_mounts (length before.folders) files) (at_some (λ all. IsMounted (own_mounts (length before.folders) all) (told_mounts files_of before) (told_mounts files_of after) (Ok tt)) (files_of folder) files is given)))));
     mounts = if_some (all_some (map files_of (held ++ folder ∷ []))) (λ told is.
         let parts = parts_of (map files_of held) (files_of folder ∷ []) told (ap all_some (sym (map_push files_of held folder)) ∙ is) in
         let head = head_of (files_of folder) [] parts.rest parts.back in
@@ -105,6 +140,10 @@ module _ {F : Type 0} (files_of : F → Option (List File)) (faults_of calls_of 
         subst (λ r. IsOkAnd r (λ mounts. mounts_of files_of after ≡ Some mounts)) (sym (ap mounted last ∙ with_folders-append 0 parts.first (head.one ∷ []) [])) all);
   }
     where
+      ok_mounted : (own : Result (List Mount) BadPack) → IsMounted own (told_mounts files_of before) (told_mounts files_of after) (Ok tt) → IsOk own
+      ok_mounted (Ok mounts) is = refl
+      ok_mounted (Err bad) is = absurd is
+
       some_nil : (rest : List (List File)) → all_some {X = List File} [] ≡ Some rest → rest ≡ []
       some_nil [] is = refl
       some_nil (x ∷ rest) is = cc
@@ -114,23 +153,6 @@ module _ {F : Type 0} (files_of : F → Option (List File)) (faults_of calls_of 
   is_kept (inl none) = absurd (let same = none.0 in cc)
   is_kept (inr added) = added
 
-  -- the next folder has a bad pack
-  bad_next : (so_far : Result (List Mount) BadPack) (number : ℕ) (files : List File) (more : List (List File)) (bad : BadPack) → IsOkAnd so_far (λ ms. mounts_of files_of before ≡ Some ms) → own_mounts number files ≡ Err bad
-      → result_and_then so_far (with_folders number (files ∷ more)) ≡ Err bad
-  bad_next (Ok ms) number files more bad is own = ap (λ (r : Result (List Mount) BadPack). result_and_then r (λ mounts. with_folders (number + 1) more (mounts ++ ms))) own
-  bad_next (Err other) number files more bad is own = absurd is
-
-  -- the first bad pack of all is that of the next folder
-  bad_all : (rest : List F) (bad : BadPack) → IfSome (files_of folder) (λ files. own_mounts (length before.folders) files ≡ Err bad) → IfSome (all_some (map files_of (held ++ folder ∷ rest))) (λ told. mounted told ≡ Err bad)
-  bad_all rest bad given = if_some (all_some (map files_of (held ++ folder ∷ rest))) (λ told is.
-      let parts = parts_of (map files_of held) (files_of folder ∷ map files_of rest) told (ap all_some (sym (map-append files_of held (folder ∷ rest))) ∙ is) in
-      let head = head_of (files_of folder) (map files_of rest) parts.rest parts.back in
-      let all : told ≡ parts.first ++ head.one ∷ head.rest = parts.is ∙ ap (λ l. parts.first ++ l) head.is in
-      let number : 0 + length parts.first ≡ length before.folders = omega (arith, told_length parts.first parts.front, held_length) in
-      let own : own_mounts (0 + length parts.first) head.one ≡ Err bad = ap (λ n. own_mounts n head.one) number ∙ at_some (λ files. own_mounts (length before.folders) files ≡ Err bad) (files_of folder) head.one head.there given in
-      ap mounted all ∙ with_folders-append 0 parts.first (head.one ∷ head.rest) []
-      ∙ bad_next (mounted parts.first) (0 + length parts.first) head.one head.rest bad (at_some (λ told. IsOkAnd (mounted told) (λ mounts. mounts_of files_of before ≡ Some mounts)) (all_some (map files_of held)) parts.first parts.front opened.mounts) own)
-
   get_after : {X : Type 0} (xs ys : List X) (y : X) → slice_get (xs ++ y ∷ ys) (length xs) ≡ Some y
   get_after [] ys y = refl
   get_after (x ∷ xs) ys y = get_after xs ys y
@@ -139,17 +161,20 @@ module _ {F : Type 0} (files_of : F → Option (List File)) (faults_of calls_of 
   index_after [] ys y = refl
   index_after (x ∷ xs) ys y = index_after xs ys y
 
-  ok_of : (so_far : Result (List Mount) BadPack) → IsOkAnd so_far (λ ms. mounts_of files_of before ≡ Some ms) → IsOk so_far
-  ok_of (Ok ms) is = refl
-  ok_of (Err bad) is = absurd is
+  -- what the next folder tells, and what stands before it
+  told_next : (rest : List F) (number : ℕ) → number ≡ length before.folders → slice_get (map files_of (held ++ folder ∷ rest)) number ≡ Some (files_of folder)
+  told_next rest number last =
+      let here : number ≡ length (map files_of held) = omega (arith, last, held_length, length-map held files_of) in
+      ap (λ l. slice_get l number) (map-append files_of held (folder ∷ rest)) ∙ ap (slice_get (map files_of held ++ files_of folder ∷ map files_of rest)) here
+      ∙ get_after (map files_of held) (map files_of rest) (files_of folder)
 
-  -- the folders before the next one have no bad pack
-  good_before : (rest : List F) (number first : ℕ) → number ≡ length before.folders → IfSome (all_some (map files_of (held ++ folder ∷ rest))) (λ told. IsOk (mounted (take (first + number - first) told)))
-  good_before rest number first last = if_some (all_some (map files_of (held ++ folder ∷ rest))) (λ told is.
-      let parts = parts_of (map files_of held) (files_of folder ∷ map files_of rest) told (ap all_some (sym (map-append files_of held (folder ∷ rest))) ∙ is) in
-      let count : first + number - first ≡ length parts.first = omega (arith, last, told_length parts.first parts.front, held_length) in
-      let front : take (first + number - first) told ≡ parts.first = ap (λ n. take n told) count ∙ ap (take (length parts.first)) parts.is ∙ take-append_seam parts.first parts.rest in
-      subst (λ l. IsOk (mounted l)) (sym front) (ok_of (mounted parts.first) (at_some (λ all. IsOkAnd (mounted all) (λ mounts. mounts_of files_of before ≡ Some mounts)) (all_some (map files_of held)) parts.first parts.front opened.mounts)))
+  good_before : (rest : List F) (number : ℕ) → number ≡ length before.folders → HaveNoBadPack 0 (take number (map files_of (held ++ folder ∷ rest)))
+  good_before rest number last =
+      let here : number ≡ length (map files_of held) = omega (arith, last, held_length, length-map held files_of) in
+      let front : take number (map files_of (held ++ folder ∷ rest)) ≡ map files_of held =
+          ap (take number) (map-append files_of held (folder ∷ rest)) ∙ ap (λ n. take n (map files_of held ++ files_of folder ∷ map files_of rest)) here
+          ∙ take-append_seam (map files_of held) (files_of folder ∷ map files_of rest) in
+      subst (HaveNoBadPack 0) (sym front) opened.good
 
   -- the folder that is handed over is what became of the next one
   failed_last : (rest : List F) (number first : ℕ) (failed : F) → number ≡ length before.folders → slice_get after.folders number ≡ Some failed → AddsFolder files_of faults_of calls_of folder before after (Err (error.FolderFault number))
@@ -157,11 +182,8 @@ module _ {F : Type 0} (files_of : F → Option (List File)) (faults_of calls_of 
   failed_last rest number first failed last is added =
       let there : slice_get after.folders number ≡ Some added.now = ap (λ l. slice_get l number) added.last ∙ ap (slice_get (before.folders ++ added.now ∷ [])) last ∙ get_after before.folders [] added.now in
       let same : added.now ≡ failed = cc in
-      let at_files : number ≡ length (map files_of held) = omega (arith, last, held_length, length-map held files_of) in
       let at_faults : number ≡ length (map faults_of held) = omega (arith, last, held_length, length-map held faults_of) in
-      let told : slice_get (map files_of (held ++ folder ∷ rest)) number ≡ Some (files_of failed) =
-      ap (λ l. slice_get l number) (map-append files_of held (folder ∷ rest)) ∙ ap (slice_get (map files_of held ++ files_of folder ∷ map files_of rest)) at_files
-      ∙ get_after (map files_of held) (map files_of rest) (files_of folder) ∙ ap Some (sym added.told ∙ ap files_of same) in
+      let told : slice_get (map files_of (held ++ folder ∷ rest)) number ≡ Some (files_of failed) = told_next rest number last ∙ ap Some (sym added.told ∙ ap files_of same) in
       let count : slice_index (map faults_of (held ++ folder ∷ rest)) number ≡ faults_of folder =
       ap (λ l. slice_index l number) (map-append faults_of held (folder ∷ rest)) ∙ ap (slice_index (map faults_of held ++ faults_of folder ∷ map faults_of rest)) at_faults
       ∙ index_after (map faults_of held) (map faults_of rest) (faults_of folder) in
@@ -170,7 +192,7 @@ module _ {F : Type 0} (files_of : F → Option (List File)) (faults_of calls_of 
 
   abbrev Ended : List F → ℕ → Status F → Type 0
   Ended rest first status =
-      OpeningEnds first (all_some (map files_of (held ++ folder ∷ rest))) status × HandsOver first files_of faults_of (map files_of (held ++ folder ∷ rest)) (map faults_of (held ++ folder ∷ rest)) status
+      OpeningEnds first (map files_of (held ++ folder ∷ rest)) status × HandsOver first files_of faults_of (map files_of (held ++ folder ∷ rest)) (map faults_of (held ++ folder ∷ rest)) status
 
   -- the opening ended with the next folder
   pub opens_no_more : (rest : List F) (fault : MountError) (first : ℕ) (status : Status F) → IfSome (files_of folder) (λ files. IsMounted (own_mounts (length before.folders) files) (told_mounts files_of before) (told_mounts files_of after) (Err fault))
@@ -179,10 +201,16 @@ module _ {F : Type 0} (files_of : F → Option (List File)) (faults_of calls_of 
       → IsUnopened fault first after status → IsOpened first files_of faults_of (held ++ folder ∷ rest) (Err status)
   opens_no_more rest (error.BadPack number pack fault) first status given own kept is =
       let here : number < length (map files_of (held ++ folder ∷ rest)) = omega (arith, own.0, held_length, length-map (held ++ folder ∷ rest) files_of, length-append held (folder ∷ rest)) in
-      subst (λ (s : Status F). Ended rest first s) (sym is) (bad_all rest (record { folder = number; pack = pack; fault = fault }) given, (here, own.1))
+      let first_bad : IsFirstBadPack (map files_of (held ++ folder ∷ rest)) (bad_pack number pack fault) = record {
+        files = files_of folder;
+        is = told_next rest number own.0;
+        before = good_before rest number own.0;
+        own = subst (λ n. IfSome (files_of folder) (λ all. own_mounts n all ≡ Err (bad_pack number pack fault))) (sym own.0) given;
+      } in
+      subst (λ (s : Status F). Ended rest first s) (sym is) (first_bad, (here, own.1))
   opens_no_more rest (error.FolderFault number) first status given own (inl none) is = absurd (let same = none.0 in cc)
   opens_no_more rest (error.FolderFault number) first status given own (inr added) is =
-      subst (λ (s : Status F). Ended rest first s) (sym is.1) (good_before rest number first own, failed_last rest number first is.0 own is.2 added)
+      subst (λ (s : Status F). Ended rest first s) (sym is.1) ((number, refl, good_before rest number own), failed_last rest number first is.0 own is.2 added)
   opens_no_more rest error.OutOfMemory first status given own kept is = subst (λ (s : Status F). Ended rest first s) (sym is) (tt, tt)
 
 pub not_small : {F : Type 0} (fault : MountError) (first : ℕ) (path : PathState F) (status : Status F) → IsUnopened fault first path status → status ≡ TooSmall → ⊥

@@ -8,12 +8,15 @@ use Rattle.outside_io.specs.Streams.{Adds, Took}
 use Rattle.outside_io.proofs.Puts.{adds_none, adds_both}
 use Rattle.console_session.specs.States.{State, Reply, CutsOff, StillPut}
 use Rattle.console_session.specs.Frames.{Ended, Ran, stopped, line, texts, IsCutShort, BeginsWith, GoesAs, Runs}
-use Rattle.console_core.specs.Runs.{joined_runs, go_on, behind, followed, run_lines, byte_run, still_pending, HasNoNewline, Lines, begun, one_byte, lines_of}
+use Rattle.console_core.specs.Runs.{joined_runs, go_on, behind, followed, run_lines, HasNoNewline, Lines, begun, one_byte, lines_of}
 use Rattle.console_session.specs.declared.ends.Fault.{Fault}
 use Rattle.console_session.specs.declared.ends.Fault.TheVariants as fault
+use Rattle.console_session.specs.Sessions.{told_end}
+use Rattle.console_session.specs.declared.ends.StepEnd.{StepEnd}
+use Rattle.console_session.specs.declared.ends.StepEnd.TheVariants.{Went, Quit, FolderFault, WriteFault, OutOfMemory}
 use Rattle.console_session.proofs.Following.{still_both}
 use Rattle.console_session.proofs.Framing.{texts-append}
-use Rattle.console_core.proofs.Shortening.{take_front, line_short, line_front}
+use Rattle.console_core.proofs.Shortening.{take_front, line_front}
 
 -- a byte more, at the end
 abbrev pub more_byte : ℕ → Lines → Lines
@@ -106,7 +109,7 @@ short_still replies error start now cut = still_both start cut.mid now (texts cu
 begins_still : (replies : List Reply) (start now : Option (List ℕ)) → BeginsWith replies start now → StillPut start now
 begins_still replies start now begins = still_both start begins.mid now (texts replies, begins.put) begins.more
 
-goes_still : (replies : List Reply) (end : Option Ended) (result : Result Bool Fault) (new : State) (start now : Option (List ℕ)) → GoesAs replies end result new start now → StillPut start now
+pub goes_still : (replies : List Reply) (end : Option Ended) (result : Result Bool Fault) (new : State) (start now : Option (List ℕ)) → GoesAs replies end result new start now → StillPut start now
 goes_still replies (Some end) (Ok quit) new start now runs = (texts replies, runs.put)
 goes_still replies (Some end) (Err error) new start now cut = short_still replies error start now cut
 goes_still replies None (Ok quit) new start now begins = begins_still replies start now begins
@@ -211,70 +214,30 @@ lone : (text : List ℕ) → HasNoNewline text → lines_of text ≡ record { wh
 lone [] none = refl
 lone (byte ∷ bytes) none = ap (λ (t : Bool). one_byte t byte (lines_of bytes)) none.0 ∙ ap (λ (lines : Lines). one_byte false byte lines) (lone bytes none.1)
 
-pub start_run : (s : State) (pending : List ℕ) (start : Option (List ℕ)) → HasNoNewline pending → Runs (run_lines s (lines_of (pending ++ [])).whole) (Ok false) s start start
-start_run s pending start no_newline =
-    let is = lone pending no_newline in
-    let none : (lines_of (pending ++ [])).whole ≡ [] = ap (λ (t : List ℕ). (lines_of t).whole) (append-nil pending) ∙ ap (λ (l : Lines). l.whole) is in
+-- nothing was run of what is pending
+pub start_run : (s : State) (pending : List ℕ) (start : Option (List ℕ)) → HasNoNewline pending → Runs (run_lines s (lines_of pending).whole) (Ok false) s start start
+start_run s pending start none =
     let here : Runs (run_lines s []) (Ok false) s start start = record { quit = refl; after = refl; put = adds_none start } in
-    subst (λ ls. Runs (run_lines s ls) (Ok false) s start start) (sym none) here
+    subst (λ (lines : Lines). Runs (run_lines s lines.whole) (Ok false) s start start) (sym (lone pending none)) here
 
-pub start_rest : (pending : List ℕ) → length pending ≤ 8192 → HasNoNewline pending → pending ≡ take 8192 (lines_of (pending ++ [])).rest
-start_rest pending short no_newline =
-    let is = lone pending no_newline in
-    sym (ap (λ (t : List ℕ). take 8192 (lines_of t).rest) (append-nil pending) ∙ ap (λ (l : Lines). take 8192 l.rest) is ∙ take_all 8192 pending short)
+pub start_rest : (pending : List ℕ) → length pending ≤ 8192 → HasNoNewline pending → pending ≡ take 8192 (lines_of pending).rest
+start_rest pending short none = sym (ap (λ (lines : Lines). take 8192 lines.rest) (lone pending none) ∙ take_all 8192 pending short)
 
-pub more_taken : (pending piece : List ℕ) (i : ℕ) → i < length piece → pending ++ take (i + 1) piece ≡ (pending ++ take i piece) ++ get_or piece i 0 ∷ []
-more_taken pending piece i inside = ap (λ (t : List ℕ). pending ++ t) (take_more piece i 0 inside) ∙ sym (append_assoc pending (take i piece) (get_or piece i 0 ∷ []))
+-- what follows a run that ended is not run
+pub ended_run : (ran : Ran) (rest : State → Ran) (end : StepEnd) (new : State) (start now : Option (List ℕ)) → (end ≡ Went → ⊥) → Runs ran (told_end end) new start now → Runs (followed ran rest) (told_end end) new start now
+ended_run ran rest Went new start now stops runs = absurd (stops refl)
+ended_run ran rest Quit new start now stops runs = quit_run ran rest new start now runs
+ended_run ran rest (FolderFault folder) new start now stops runs = cut_run ran rest (fault.Folder folder) new start now runs
+ended_run ran rest WriteFault new start now stops runs = cut_run ran rest fault.Write new start now runs
+ended_run ran rest OutOfMemory new start now stops runs = cut_run ran rest fault.Memory new start now runs
 
-pub all_taken : (pending piece : List ℕ) (i : ℕ) → i < length piece → pending ++ piece ≡ ((pending ++ take i piece) ++ get_or piece i 0 ∷ []) ++ drop (i + 1) piece
-all_taken pending piece i inside =
-    ap (λ (t : List ℕ). pending ++ t) (sym (take-append-drop (i + 1) piece)) ∙ sym (append_assoc pending (take (i + 1) piece) (drop (i + 1) piece)) ∙ ap (λ (t : List ℕ). t ++ drop (i + 1) piece) (more_taken pending piece i inside)
-
-pub rest_more : (taken pending : List ℕ) (byte : ℕ) → pending ≡ take 8192 (lines_of taken).rest → still_pending pending byte ≡ take 8192 (lines_of (taken ++ byte ∷ [])).rest
-rest_more taken pending byte is = elim (eqb_tells byte 10) [
-  | inl at ↦ rw at.0 (sym (ap (λ (l : Lines). take 8192 l.rest) (lines_newline taken byte at.1)))
-  | inr off ↦ rw off.0 (ap (λ (p : List ℕ). take 8192 (p ++ byte ∷ [])) is ∙ take_front 8192 (lines_of taken).rest (byte ∷ []) ∙ sym (ap (λ (l : Lines). take 8192 l.rest) (lines_more taken byte off.1)))
-]
-
-module _ (first s new : State) (taken : List ℕ) (byte : ℕ) (start mid now : Option (List ℕ)) (so_far : Runs (run_lines first (lines_of taken).whole) (Ok false) s start mid) (pending : List ℕ) (pending_is : pending ≡ take 8192 (lines_of taken).rest) where
-  -- a byte more was taken, and its line was run where it ends one
-  pub byte_runs : (result : Result Bool Fault) → Runs (byte_run s pending byte) result new mid now → Runs (run_lines first (lines_of (taken ++ byte ∷ [])).whole) result new start now
-  byte_runs result runs = elim (eqb_tells byte 10) [
-    | inl at ↦
-        let line_runs : Runs (line pending s) result new mid now = rw at.0 at runs in
-        let kept : Runs (line (take 8192 (lines_of taken).rest) s) result new mid now = subst (λ p. Runs (line p s) result new mid now) pending_is line_runs in
-        let here : Runs (line (lines_of taken).rest s) result new mid now = subst (λ r. Runs r result new mid now) (line_short s (lines_of taken).rest) kept in
-        let ran = line (lines_of taken).rest s in
-        let alone : Runs (followed ran (λ after. stopped after [] false)) result new mid now = subst (λ r. Runs r result new mid now) (sym (nothing_more ran)) here in
-        subst (λ ls. Runs (run_lines first ls) result new start now) (sym (ap (λ (l : Lines). l.whole) (lines_newline taken byte at.1)))
-        (subst (λ r. Runs r result new start now) (sym (run_append first (lines_of taken).whole ((lines_of taken).rest ∷ [])))
-        (both_run (run_lines first (lines_of taken).whole) (λ after. run_lines after ((lines_of taken).rest ∷ [])) result s new start mid now so_far alone))
-    | inr off ↦
-        let none_runs : Runs (stopped s [] false) result new mid now = rw off.0 at runs in
-        subst (λ ls. Runs (run_lines first ls) result new start now) (sym (ap (λ (l : Lines). l.whole) (lines_more taken byte off.1)))
-        (subst (λ r. Runs r result new start now) (nothing_more (run_lines first (lines_of taken).whole))
-        (both_run (run_lines first (lines_of taken).whole) (λ after. stopped after [] false) result s new start mid now so_far none_runs))
-  ]
-
-  -- the same before bytes that are not run
-  module _ (all more : List ℕ) (is : all ≡ (taken ++ byte ∷ []) ++ more) where
-    later : (texts : List (List ℕ)) × ((lines_of ((taken ++ byte ∷ []) ++ more)).whole ≡ (lines_of (taken ++ byte ∷ [])).whole ++ texts)
-    later = lines_later (taken ++ byte ∷ []) more
-
-    all_run : run_lines first (lines_of all).whole ≡ followed (run_lines first (lines_of (taken ++ byte ∷ [])).whole) (λ after. run_lines after later.0)
-    all_run =
-        ap (λ (t : List ℕ). run_lines first (lines_of t).whole) is ∙ ap (λ (ls : List (List ℕ)). run_lines first ls) later.1
-        ∙ run_append first (lines_of (taken ++ byte ∷ [])).whole later.0
-
-    pub byte_quits : Runs (byte_run s pending byte) (Ok true) new mid now → Runs (run_lines first (lines_of all).whole) (Ok true) new start now
-    byte_quits runs =
-        subst (λ r. Runs r (Ok true) new start now) (sym all_run)
-        (quit_run (run_lines first (lines_of (taken ++ byte ∷ [])).whole) (λ after. run_lines after later.0) new start now (byte_runs (Ok true) runs))
-
-    pub byte_cuts : (error : Fault) → Runs (byte_run s pending byte) (Err error) new mid now → Runs (run_lines first (lines_of all).whole) (Err error) new start now
-    byte_cuts error cut =
-        subst (λ r. Runs r (Err error) new start now) (sym all_run)
-        (cut_run (run_lines first (lines_of (taken ++ byte ∷ [])).whole) (λ after. run_lines after later.0) error new start now (byte_runs (Err error) cut))
+-- so lines that ended a run end it before more bytes too
+pub lines_end : (first new : State) (taken more : List ℕ) (end : StepEnd) (start now : Option (List ℕ)) → (end ≡ Went → ⊥) → Runs (run_lines first (lines_of taken).whole) (told_end end) new start now
+    → Runs (run_lines first (lines_of (taken ++ more)).whole) (told_end end) new start now
+lines_end first new taken more end start now stops runs =
+    let later = lines_later taken more in
+    let all : run_lines first (lines_of (taken ++ more)).whole ≡ followed (run_lines first (lines_of taken).whole) (λ after. run_lines after later.0) = ap (run_lines first) later.1 ∙ run_append first (lines_of taken).whole later.0 in
+    subst (λ r. Runs r (told_end end) new start now) (sym all) (ended_run (run_lines first (lines_of taken).whole) (λ after. run_lines after later.0) end new start now stops runs)
 
 -- the lines of a rest, and then of more bytes
 abbrev pub lines_then : Lines → List ℕ → Lines
@@ -390,6 +353,42 @@ piece_runs first s new taken piece pending result start mid now so_far is runs =
 pub piece_rest : (taken piece pending now : List ℕ) (s : State) → pending ≡ take 8192 (lines_of taken).rest → now ≡ take 8192 (lines_of (pending ++ piece)).rest → now ≡ take 8192 (lines_of (taken ++ piece)).rest
 piece_rest taken piece pending now s is now_is =
     now_is ∙ ap (λ (p : List ℕ). take 8192 (lines_of (p ++ piece)).rest) is ∙ kept_rest s (lines_of taken).rest piece (none_in_rest taken) ∙ sym (ap (λ (l : Lines). take 8192 l.rest) (lines_append taken piece))
+
+none_in_both : (first second : List ℕ) → HasNoNewline first → HasNoNewline second → HasNoNewline (first ++ second)
+none_in_both [] second none more = more
+none_in_both (byte ∷ bytes) second none more = (none.0, none_in_both bytes second none.1 more)
+
+-- a piece that has one line is that line, behind what is pending
+line_piece : (pending front : List ℕ) → HasNoNewline pending → HasNoNewline front → lines_of (pending ++ (front ++ 10 ∷ [])) ≡ record { whole = (pending ++ front) ∷ []; rest = [] }
+line_piece pending front none more =
+    ap lines_of (sym (append_assoc pending front (10 ∷ []))) ∙ lines_newline (pending ++ front) 10 refl ∙ ap more_line (lone (pending ++ front) (none_in_both pending front none more))
+
+module _ (first s : State) (done pending front : List ℕ) (is : pending ≡ take 8192 (lines_of done).rest) (none : HasNoNewline front) where
+  line_is : lines_of (pending ++ (front ++ 10 ∷ [])) ≡ record { whole = (pending ++ front) ∷ []; rest = [] }
+  line_is = line_piece pending front (is_pending done pending is) none
+
+  -- a line more was run
+  pub line_runs : (end : Result Bool Fault) (new : State) (start mid now : Option (List ℕ)) → Runs (run_lines first (lines_of done).whole) (Ok false) s start mid → Runs (line (pending ++ front) s) end new mid now
+      → Runs (run_lines first (lines_of (done ++ (front ++ 10 ∷ []))).whole) end new start now
+  line_runs end new start mid now so_far runs =
+      let alone : Runs (run_lines s ((pending ++ front) ∷ [])) end new mid now = subst (λ r. Runs r end new mid now) (sym (nothing_more (line (pending ++ front) s))) runs in
+      piece_runs first s new done (front ++ 10 ∷ []) pending end start mid now so_far is (subst (λ (lines : Lines). Runs (run_lines s lines.whole) end new mid now) (sym line_is) alone)
+
+  pub line_rest : [] ≡ take 8192 (lines_of (done ++ (front ++ 10 ∷ []))).rest
+  line_rest = piece_rest done (front ++ 10 ∷ []) pending [] s is (sym (ap (λ (lines : Lines). take 8192 lines.rest) line_is))
+
+-- nothing but a rest of a line was left
+module _ (first s : State) (done pending left : List ℕ) (is : pending ≡ take 8192 (lines_of done).rest) (none : HasNoNewline left) where
+  left_is : lines_of (pending ++ left) ≡ record { whole = []; rest = pending ++ left }
+  left_is = lone (pending ++ left) (none_in_both pending left (is_pending done pending is) none)
+
+  pub left_runs : (start now : Option (List ℕ)) → Runs (run_lines first (lines_of done).whole) (Ok false) s start now → Runs (run_lines first (lines_of (done ++ left)).whole) (Ok false) s start now
+  left_runs start now so_far =
+      let here : Runs (run_lines s []) (Ok false) s now now = record { quit = refl; after = refl; put = adds_none now } in
+      piece_runs first s s done left pending (Ok false) start now now so_far is (subst (λ (lines : Lines). Runs (run_lines s lines.whole) (Ok false) s now now) (sym left_is) here)
+
+  pub left_rest : take 8192 (pending ++ left) ≡ take 8192 (lines_of (done ++ left)).rest
+  left_rest = piece_rest done left pending (take 8192 (pending ++ left)) s is (sym (ap (λ (lines : Lines). take 8192 lines.rest) left_is))
 
 -- a piece that was taken, behind what was taken before
 pub took_more : (taken piece : List ℕ) (start mid now : Option (List ℕ)) → Took taken start mid → Took piece mid now → Took (taken ++ piece) start now

@@ -1,3 +1,4 @@
 pub mod Runs
+pub mod Outside
 pub mod Reading
 pub mod Ends

@@ -61,13 +61,10 @@ rest_run s text = followed (last_line s text) (λ after. finish after)
 abbrev pub run : State → List ℕ → Ran
 run s script = followed (run_lines s (lines_of script).whole) (λ after. rest_run after (lines_of script).rest)
 
--- what a byte runs, behind what is kept of its line
-abbrev pub byte_run : State → List ℕ → ℕ → Ran
-byte_run s pending byte = if byte == 10 then line pending s else stopped s [] false
-
--- what is kept of an unfinished line: its first 8192 bytes, which are more than the buffer holds
-abbrev pub still_pending : List ℕ → ℕ → List ℕ
-still_pending pending byte = if byte == 10 then [] else take 8192 (pending ++ byte ∷ [])
-
 abbrev pub HasNoNewline : List ℕ → Type 0
 HasNoNewline text = AllByRecursion (λ byte. (byte == 10) ≡ false) text
+
+-- the first line of a text, without its newline, and what stands behind that
+pub record IsFirstLine (text first behind : List ℕ) : Type 0 where
+  pub is : text ≡ (first ++ 10 ∷ []) ++ behind
+  pub none : HasNoNewline first

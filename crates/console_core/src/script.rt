@@ -1,13 +1,15 @@
 // The script: it is read in pieces, and the whole lines of what was taken are run before the next read.
-ghost use Rattle.std.specs.Prelude.{◌≡◌, ◌≤◌, ◌++◌, ◌∷◌, Ok, [], length, take, false};
+ghost use Rattle.std.specs.Prelude.{◌≡◌, ◌≤◌, ◌++◌, [], length, take, false, MatchOption};
 ghost use Rattle.outside_io.specs.Causes.{Rose};
-ghost use Rattle.console_session.specs.Sessions.{told_end};
+ghost use Rattle.console_session.specs.Sessions.{is_end};
 ghost use Rattle.console_session.specs.Frames.{line};
-ghost use Rattle.console_core.specs.Runs.{run_lines, lines_of, byte_run, still_pending, last_line, rest_run, HasNoNewline};
+ghost use Rattle.console_core.specs.Runs.{run_lines, lines_of, last_line, rest_run, HasNoNewline, IsFirstLine};
+ghost use Rattle.console_core.specs.Outside.{outside_of};
 ghost use Rattle.console_core.specs.Reading.{RunsIn, HasRead, ReadsPast, HasReadCauses};
 
 use arrayvec::ArrayVec;
-use console_session::{Fault, Session, StepEnd};
+use console_session::{Session, StepEnd};
+use memchr::memchr;
 use mem_model::Store;
 use outside_io::{Folder, Sink, Source};
 
@@ -25,117 +27,99 @@ pub type Pending = ArrayVec<u8, 8192>;
 pub enum ReadEnd {
     /// The script was read to its end.
     AtEnd,
-    /// `quit` was executed.
-    Quit,
-    /// A fault ended a line.
-    Ended(Fault),
+    /// A line ended the run, by `quit` or by a fault.
+    Ended(StepEnd),
     /// A read failed.
     Failed,
     /// A byte more than a script may have was taken.
     TooLong,
 }
 
-// Whether `quit` was executed in a step, or the fault that ended it.
-fn told(end: StepEnd) -> Result<bool, Fault>
-    ensures { result ≡ told_end end }
+// Keeps more of an unfinished line, as far as there is room.
+fn keep(pending: &mut Pending, bytes: &[u8])
+    ensures { pending.new.items ≡ take 8192 (pending.old.items ++ bytes.now) }
 {
-    match end {
-        StepEnd::Went => Ok(false),
-        StepEnd::Quit => Ok(true),
-        StepEnd::FolderFault { folder } => Err(Fault::Folder { folder }),
-        StepEnd::WriteFault => Err(Fault::Write),
-        StepEnd::OutOfMemory => Err(Fault::Memory),
-    }
+    let count = pending.remaining_capacity().min(bytes.len());
+    let _ = pending.try_extend_from_slice(&bytes[..count]);
 }
 
-// Runs a line. True where `quit` was executed.
-fn run_line<M: Store, F: Folder, O: Sink>(
-    session: &mut Session<M, F>,
-    text: &[u8],
-    out: &mut O,
-) -> Result<bool, Fault>
-    requires going { session.old.ended ≡ false }
-    ensures runs { RunsIn M.frugal O.Sink (line text.now session.old.state)
-        session.old session.new out.old out.new result }
-    ensures going { result ≡ Ok false → session.new.ended ≡ false }
-{
-    told(session.step(text, out))
-}
-
-// Takes a byte, and runs the line that it ends. True where `quit` was executed.
-fn feed_byte<M: Store, F: Folder, O: Sink>(
+// Runs the line that is pending and ends with this front of a piece. A line that is whole in the piece is run where it lies.
+fn run_pending<M: Store, F: Folder, O: Sink>(
     session: &mut Session<M, F>,
     pending: &mut Pending,
-    byte: u8,
+    front: &[u8],
     out: &mut O,
-) -> Result<bool, Fault>
+) -> StepEnd
     requires going { session.old.ended ≡ false }
-    ensures runs { RunsIn M.frugal O.Sink (byte_run session.old.state pending.old.items byte)
+    ensures runs { RunsIn M.frugal O.Sink (line (pending.old.items ++ front.now) session.old.state)
         session.old session.new out.old out.new result }
-    ensures rest { result ≡ Ok false → pending.new.items ≡ still_pending pending.old.items byte }
-    ensures going { result ≡ Ok false → session.new.ended ≡ false }
+    ensures empty { pending.new.items ≡ [] }
+    ensures ended { session.new.ended ≡ is_end result }
 {
-    if byte == b'\n' {
-        let result = run_line(session, pending.as_slice(), out);
-        pending.clear();
-        return result;
+    if pending.is_empty() {
+        return session.step(front, out);
     }
-    keep(pending, byte);
-    Ok(false)
+    keep(pending, front);
+    let end = session.step(pending.as_slice(), out);
+    pending.clear();
+    end
 }
 
-// Keeps a byte of an unfinished line, where there is room.
-fn keep(pending: &mut Pending, byte: u8)
-    ensures { pending.new.items ≡ take 8192 (pending.old.items ++ byte ∷ []) }
+// The first line of a text, and what stands behind its newline. `None` where no line ends.
+fn split_line(text: &[u8]) -> Option<(&[u8], &[u8])>
+    ensures { MatchOption result (HasNoNewline text.now) (λ parts. IsFirstLine text.now parts.0.now parts.1.now) }
 {
-    if !pending.is_full() {
-        pending.push(byte);
-    }
+    let at = memchr(b'\n', text)?;
+    Some((&text[..at], &text[at + 1..]))
 }
 
-// Runs the whole lines of what is pending and a piece, and keeps the rest; then what was put is handed on. True where `quit` was executed.
+// Runs the whole lines of what is pending and a piece, and keeps the rest. Replies may still be held back.
+fn run_piece<M: Store, F: Folder, O: Sink>(
+    session: &mut Session<M, F>,
+    pending: &mut Pending,
+    piece: &[u8],
+    out: &mut O,
+) -> StepEnd
+    requires pending { HasNoNewline pending.old.items }
+    requires short { length pending.old.items ≤ 8192 }
+    requires going { session.old.ended ≡ false }
+    ensures runs { RunsIn M.frugal O.Sink (run_lines session.old.state (lines_of (pending.old.items ++ piece.now)).whole)
+        session.old session.new out.old out.new result }
+    ensures rest { result ≡ StepEnd.Went
+        → pending.new.items ≡ take 8192 (lines_of (pending.old.items ++ piece.now)).rest }
+    ensures ended { session.new.ended ≡ is_end result }
+{
+    let mut left = piece;
+    'newline: while let Some((front, behind)) = split_line(left) {
+        match run_pending(session, pending, front, out) {
+            StepEnd::Went => {}
+            end => return end,
+        }
+        left = behind;
+    }
+    keep(pending, left);
+    StepEnd::Went
+}
+
+// Runs the whole lines of what is pending and a piece, and keeps the rest; then what was put is handed on.
 fn feed<M: Store, F: Folder, O: Sink>(
     session: &mut Session<M, F>,
     pending: &mut Pending,
     piece: &[u8],
     out: &mut O,
-) -> Result<bool, Fault>
+) -> StepEnd
     requires pending { HasNoNewline pending.old.items }
     requires short { length pending.old.items ≤ 8192 }
     requires going { session.old.ended ≡ false }
     ensures runs { RunsIn M.frugal O.Sink (run_lines session.old.state (lines_of (pending.old.items ++ piece.now)).whole)
         session.old session.new out.old out.new result }
-    ensures rest { result ≡ Ok false → pending.new.items ≡ take 8192 (lines_of (pending.old.items ++ piece.now)).rest }
-    ensures going { result ≡ Ok false → session.new.ended ≡ false }
+    ensures rest { result ≡ StepEnd.Went
+        → pending.new.items ≡ take 8192 (lines_of (pending.old.items ++ piece.now)).rest }
+    ensures ended { session.new.ended ≡ is_end result }
 {
-    let result = feed_bytes(session, pending, piece, out);
+    let end = run_piece(session, pending, piece, out);
     out.flush();
-    result
-}
-
-// The same, with what was put of the replies still held back.
-fn feed_bytes<M: Store, F: Folder, O: Sink>(
-    session: &mut Session<M, F>,
-    pending: &mut Pending,
-    piece: &[u8],
-    out: &mut O,
-) -> Result<bool, Fault>
-    requires pending { HasNoNewline pending.old.items }
-    requires short { length pending.old.items ≤ 8192 }
-    requires going { session.old.ended ≡ false }
-    ensures runs { RunsIn M.frugal O.Sink (run_lines session.old.state (lines_of (pending.old.items ++ piece.now)).whole)
-        session.old session.new out.old out.new result }
-    ensures rest { result ≡ Ok false → pending.new.items ≡ take 8192 (lines_of (pending.old.items ++ piece.now)).rest }
-    ensures going { result ≡ Ok false → session.new.ended ≡ false }
-{
-    for byte in piece {
-        match feed_byte(session, pending, *byte, out) {
-            Ok(false) => {}
-            Ok(true) => return Ok(true),
-            Err(fault) => return Err(fault),
-        }
-    }
-    Ok(false)
+    end
 }
 
 // Reads a byte past the limit, to see whether the script is longer.
@@ -162,12 +146,11 @@ pub fn run_script<M: Store, F: Folder, S: Source, O: Sink>(
     requires empty { pending.old.items ≡ [] }
     requires going { session.old.ended ≡ false }
     ensures read { HasRead session.old.state session.new.state result pending.new.items
-        (S.rest script.old) (S.rest script.new) (O.got out.old) (O.got out.new) }
+        (outside_of S.Source O.Sink script.old out.old) (outside_of S.Source O.Sink script.new out.new) }
     ensures going { result ≡ ReadEnd.AtEnd → session.new.ended ≡ false }
     ensures path { session.new.state.path ≡ session.old.state.path }
     ensures causes { HasReadCauses M.frugal session.old.faults session.new.faults
-        (O.sink_faults out.old) (O.sink_faults out.new)
-        (S.source_faults script.old) (S.source_faults script.new) result }
+        (outside_of S.Source O.Sink script.old out.old) (outside_of S.Source O.Sink script.new out.new) result }
 {
     let mut piece = [0u8; PIECE];
     let mut left = LIMIT;
@@ -180,45 +163,43 @@ pub fn run_script<M: Store, F: Folder, S: Source, O: Sink>(
             return ReadEnd::AtEnd;
         }
         match feed(session, pending, &piece[..count], out) {
-            Ok(false) => {}
-            Ok(true) => return ReadEnd::Quit,
-            Err(fault) => return ReadEnd::Ended(fault),
+            StepEnd::Went => {}
+            end => return ReadEnd::Ended(end),
         }
         left -= count;
     }
     read_past(script)
 }
 
-// Runs the last line, where it isn't empty. True where `quit` was executed.
+// Runs the last line, where it isn't empty.
 fn run_last<M: Store, F: Folder, O: Sink>(
     session: &mut Session<M, F>,
     text: &[u8],
     out: &mut O,
-) -> Result<bool, Fault>
+) -> StepEnd
     requires going { session.old.ended ≡ false }
     ensures runs { RunsIn M.frugal O.Sink (last_line session.old.state text.now)
         session.old session.new out.old out.new result }
-    ensures going { result ≡ Ok false → session.new.ended ≡ false }
+    ensures ended { session.new.ended ≡ is_end result }
 {
     if text.is_empty() {
-        return Ok(false);
+        return StepEnd::Went;
     }
-    run_line(session, text, out)
+    session.step(text, out)
 }
 
-/// Runs what is left at a script's end: its last line, and the frames after it. True where `quit` was executed.
+/// Runs what is left at a script's end: its last line, and the frames after it.
 pub fn run_rest<M: Store, F: Folder, O: Sink>(
     session: &mut Session<M, F>,
     text: &[u8],
     out: &mut O,
-) -> Result<bool, Fault>
+) -> StepEnd
     requires going { session.old.ended ≡ false }
     ensures { RunsIn M.frugal O.Sink (rest_run session.old.state text.now)
         session.old session.new out.old out.new result }
 {
     match run_last(session, text, out) {
-        Ok(false) => told(session.finish(out)),
-        Ok(true) => Ok(true),
-        Err(fault) => Err(fault),
+        StepEnd::Went => session.finish(out),
+        end => end,
     }
 }

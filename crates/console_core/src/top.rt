@@ -3,7 +3,8 @@ ghost use Rattle.std.specs.Prelude.{◌≡◌, ◌↔◌, ◌<◌, ◌≤◌, �
 ghost use Rattle.std.specs.Prelude.{IfSome, IsSomeAnd, Some, None, false};
 ghost use Rattle.outside_io.specs.Causes.{Rose};
 ghost use Rattle.search_paths.specs.Path.{all_some};
-ghost use Rattle.console_core.specs.Ends.{AsksTooMuch, usage_of, told_state, Ends, RunEnds, IsFaultOf, IsAmong};
+ghost use Rattle.console_core.specs.Outside.{outside_of, NoneFell};
+ghost use Rattle.console_core.specs.Ends.{AsksTooMuch, usage_of, told_state, Ends, RunEnds, IsStatusOf, IsAmong};
 ghost use Rattle.console_core.specs.Ends.{HasOwnCause, HandsOver, HasOutcome, IsComplete};
 ghost use Rattle.command_line.specs.CommandLine.{IsAsked};
 
@@ -11,7 +12,7 @@ use crate::opening::mount_all;
 use crate::script::{Pending, ReadEnd, run_rest, run_script};
 use crate::status::Status;
 use command_line::{Request, request_of};
-use console_session::{Fault, Session};
+use console_session::{Session, StepEnd};
 use mem_model::{PlainStore, Store, StoreStart};
 use outside_io::{Folder, Sink, Source};
 use std::alloc::Global;
@@ -22,20 +23,20 @@ const USERS: u32 = 768;
 // How many folders a command line names at most.
 const MOST_FOLDERS: usize = 8;
 
-// The status of a run that a fault ended, where the first folder's word has this number. A folder's fault hands the folder
-// back.
-fn faulted<M: Store, F: Folder>(session: Session<M, F>, first: u32, fault: Fault) -> Status<F>
-    requires among { IsAmong (length session.faults) fault }
+// The status of a run that ended so, where the first folder's word has this number. A folder's fault hands the folder back.
+fn status_of<M: Store, F: Folder>(session: Session<M, F>, first: u32, end: StepEnd) -> Status<F>
+    requires among { IsAmong (length session.faults) end }
     requires small { first + length session.faults < 2 ^ 32 }
-    ensures { IsFaultOf fault first F.files F.folder_faults session.state.path.told session.faults result }
+    ensures { IsStatusOf end first F.files F.folder_faults session.state.path.told session.faults result }
 {
-    match fault {
-        Fault::Folder { folder } => Status::FolderFault {
+    match end {
+        StepEnd::Went | StepEnd::Quit => Status::Done,
+        StepEnd::FolderFault { folder } => Status::FolderFault {
             word: first + folder,
             folder: session.take_folder(folder),
         },
-        Fault::Write => Status::WriteFault,
-        Fault::Memory => Status::OutOfMemory,
+        StepEnd::WriteFault => Status::WriteFault,
+        StepEnd::OutOfMemory => Status::OutOfMemory,
     }
 }
 
@@ -52,25 +53,22 @@ fn run_session<M: Store, F: Folder, S: Source, O: Sink>(
     ensures usage { usage_of result ≡ None }
     ensures not_small { result ≡ Status.TooSmall → ⊥ }
     ensures ends { RunEnds (told_state session.state) request.first
-        (S.rest script.old) (S.rest script.new) (O.got out.old) (O.got out.new) result }
-    ensures cause { HasOwnCause (S.source_faults script.old) (S.source_faults script.new)
-        (O.sink_faults out.old) (O.sink_faults out.new) result }
+        (outside_of S.Source O.Sink script.old out.old) (outside_of S.Source O.Sink script.new out.new) result }
+    ensures counts { NoneFell (outside_of S.Source O.Sink script.old out.old) (outside_of S.Source O.Sink script.new out.new) }
+    ensures cause { HasOwnCause
+        (outside_of S.Source O.Sink script.old out.old) (outside_of S.Source O.Sink script.new out.new) result }
     ensures handed_over { HandsOver request.first F.files F.folder_faults session.state.path.told session.faults result }
-    ensures script_counts { S.source_faults script.old ≤ S.source_faults script.new }
-    ensures sink_counts { O.sink_faults out.old ≤ O.sink_faults out.new }
 {
     let mut pending = Pending::new();
     let first = request.first as u32;
     match run_script(&mut session, script, &mut pending, out) {
-        ReadEnd::AtEnd => {}
-        ReadEnd::Quit => return Status::Done,
-        ReadEnd::Ended(fault) => return faulted(session, first, fault),
-        ReadEnd::Failed => return Status::ScriptFault,
-        ReadEnd::TooLong => return Status::ScriptTooLong,
-    }
-    match run_rest(&mut session, pending.as_slice(), out) {
-        Ok(_) => Status::Done,
-        Err(fault) => faulted(session, first, fault),
+        ReadEnd::AtEnd => {
+            let end = run_rest(&mut session, pending.as_slice(), out);
+            status_of(session, first, end)
+        }
+        ReadEnd::Ended(end) => status_of(session, first, end),
+        ReadEnd::Failed => Status::ScriptFault,
+        ReadEnd::TooLong => Status::ScriptTooLong,
     }
 }
 
@@ -88,14 +86,13 @@ fn run_folders<F: Folder, S: Source, O: Sink>(
     requires few { vec_len folders ≤ 65536 }
     ensures usage { usage_of result ≡ None }
     ensures too_small { (result ≡ Status.TooSmall) ↔ AsksTooMuch request }
-    ensures ends { Ends (all_some (map F.files folders.items)) request
-        (S.rest script.old) (S.rest script.new) (O.got out.old) (O.got out.new) result }
-    ensures cause { HasOwnCause (S.source_faults script.old) (S.source_faults script.new)
-        (O.sink_faults out.old) (O.sink_faults out.new) result }
+    ensures ends { Ends (map F.files folders.items) request 0
+        (outside_of S.Source O.Sink script.old out.old) (outside_of S.Source O.Sink script.new out.new) result }
+    ensures counts { NoneFell (outside_of S.Source O.Sink script.old out.old) (outside_of S.Source O.Sink script.new out.new) }
+    ensures cause { HasOwnCause
+        (outside_of S.Source O.Sink script.old out.old) (outside_of S.Source O.Sink script.new out.new) result }
     ensures handed_over { HandsOver request.first F.files F.folder_faults
         (map F.files folders.items) (map F.folder_faults folders.items) result }
-    ensures script_counts { S.source_faults script.old ≤ S.source_faults script.new }
-    ensures sink_counts { O.sink_faults out.old ≤ O.sink_faults out.new }
 {
     let store = match PlainStore::create(alloc, 1024 * request.heap, 1024 * request.zone, USERS) {
         Ok(store) => store,
@@ -132,11 +129,8 @@ fn run<F: Folder, S: Source, O: Sink>(
 ) -> Status<F>
     requires one_each { vec_len folders ≡ length words.now }
     requires few { length words.now < 2 ^ 32 }
-    ensures outcome { HasOutcome (map string_bytes words.now) F.files F.folder_faults folders.items
-        (S.rest script.old) (S.rest script.new) (O.got out.old) (O.got out.new)
-        (S.source_faults script.old) (S.source_faults script.new) (O.sink_faults out.old) (O.sink_faults out.new) result }
-    ensures script_counts { S.source_faults script.old ≤ S.source_faults script.new }
-    ensures sink_counts { O.sink_faults out.old ≤ O.sink_faults out.new }
+    ensures { HasOutcome 0 (map string_bytes words.now) F.files F.folder_faults folders.items
+        (outside_of S.Source O.Sink script.old out.old) (outside_of S.Source O.Sink script.new out.new) result }
 {
     let request = match request_of(words, MOST_FOLDERS) {
         Ok(request) => request,
@@ -175,11 +169,8 @@ pub fn quake_main<S: Source, O: Sink>(
 ) -> Status
     requires one_each { vec_len folders ≡ length words.now }
     requires few { length words.now < 2 ^ 32 }
-    ensures outcome { HasOutcome (map string_bytes words.now) files folder_faults folders.items
-        (S.rest script.old) (S.rest script.new) (O.got out.old) (O.got out.new)
-        (S.source_faults script.old) (S.source_faults script.new) (O.sink_faults out.old) (O.sink_faults out.new) result }
-    ensures script_counts { S.source_faults script.old ≤ S.source_faults script.new }
-    ensures sink_counts { O.sink_faults out.old ≤ O.sink_faults out.new }
+    ensures outcome { HasOutcome 0 (map string_bytes words.now) files folder_faults folders.items
+        (outside_of S.Source O.Sink script.old out.old) (outside_of S.Source O.Sink script.new out.new) result }
     ensures too_long { IfSome (S.rest script.old) (λ before. IfSome (S.rest script.new) (λ after.
         (result ≡ Status.ScriptTooLong) ↔ (1048576 < length before - length after))) }
     ensures complete { (request : Request) → IsAsked (map string_bytes words.now) 8 request → (AsksTooMuch request → ⊥)

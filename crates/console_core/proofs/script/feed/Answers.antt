@@ -3,7 +3,7 @@ use Rattle.console_core.proofs.script.feed.Goals as goal
 
 pub returns-clause-runs : goal.returns-clause-runs
 returns-clause-runs g c =
-    let runs = c.feed_bytes-result.ensures.runs in
+    let runs = c.run_piece-end.ensures.runs in
     record {
       told = rw c.flush.ensures.same runs.told;
       path = runs.path;

@@ -1,4 +1,4 @@
-use Rattle.std.proofs.Common.{◌≡◌, ◌+◌, ◌-◌, ◌≤◌, ◌++◌, ◌∙◌, ℕ, List, [], ◌∷◌, length, take, drop, min, Option, Ok, Err, true, false, refl, sym, ap, subst, arith, length-append, length-take}
+use Rattle.std.proofs.Common.{◌≡◌, ◌+◌, ◌-◌, ◌≤◌, ◌++◌, ◌∙◌, ℕ, List, [], ◌∷◌, length, take, drop, min, Option, Ok, false, refl, sym, ap, subst, arith, length-append, length-take}
 use Rattle.std.proofs.lemmas.List.{append-nil, take_all, take-append-le}
 use Rattle.outside_io.specs.Streams.{Took, TakesFront}
 use Rattle.outside_io.proofs.Puts.{adds_none}
@@ -6,11 +6,13 @@ use Rattle.outside_io.proofs.Takes.{took_none}
 use Rattle.console_session.specs.States.{State}
 use Rattle.console_session.specs.Frames.{Runs}
 use Rattle.console_core.specs.Runs.{run_lines, lines_of}
-use Rattle.console_core.specs.Reading.{limit, ReadsPast, HasRead}
+use Rattle.console_core.specs.Outside.{Outside, outside_of}
+use Rattle.console_core.specs.Reading.{limit, most_read, ReadsPast, HasRead}
+use Rattle.console_session.specs.Sessions.{told_end}
 use Rattle.console_core.specs.declared.script.ReadEnd.{ReadEnd}
-use Rattle.console_core.specs.declared.script.ReadEnd.TheVariants.{AtEnd, Quit, Ended, Failed, TooLong}
+use Rattle.console_core.specs.declared.script.ReadEnd.TheVariants.{AtEnd, Ended, Failed, TooLong}
 use Rattle.console_session.proofs.Causing.{counted_none, counted_of, counted_then}
-use Rattle.console_core.proofs.Scripts.{is_pending, piece_runs, piece_rest, took_more}
+use Rattle.console_core.proofs.Scripts.{is_pending, piece_runs, piece_rest, took_more, goes_still}
 use Rattle.console_core.proofs.script.run_script.Goals as goal
 
 took_piece : (into tail : List ℕ) (count : ℕ) (mid now : Option (List ℕ)) → count ≤ length into → TakesFront mid now count into → Took (take count (into ++ tail)) mid now
@@ -24,20 +26,19 @@ first_of : (taken : List ℕ) (byte : ℕ) → length taken ≡ limit → take l
 first_of taken byte size = take-append-le limit taken (byte ∷ []) (omega (arith, size)) ∙ take_all limit taken (omega (arith, size))
 
 -- what the read past the limit leaves
-past_read : (first after : State) (end : ReadEnd) (taken pending : List ℕ) (start mid now out_start out_now : Option (List ℕ)) → Took taken start mid → length taken ≡ limit → pending ≡ take 8192 (lines_of taken).rest
-    → Runs (run_lines first (lines_of taken).whole) (Ok false) after out_start out_now → ReadsPast end mid now → HasRead first after end pending start now out_start out_now
-past_read first after AtEnd taken pending start mid now out_start out_now so_far size kept run past =
-    record { taken = taken; took = took_nothing taken start mid now so_far past.0; ends = (omega (arith, size), past.1); keeps = kept; run = run }
-past_read first after Quit taken pending start mid now out_start out_now so_far size kept run past = absurd past
-past_read first after (Ended fault) taken pending start mid now out_start out_now so_far size kept run past = absurd past
-past_read first after Failed taken pending start mid now out_start out_now so_far size kept run past =
-    record { taken = taken; took = took_nothing taken start mid now so_far past; ends = omega (arith, size); keeps = tt; run = run }
-past_read first after TooLong taken pending start mid now out_start out_now so_far size kept run past = record {
+past_read : (first after : State) (end : ReadEnd) (taken pending : List ℕ) (before mid now : Outside) → Took taken before.rest mid.rest → length taken ≡ limit → pending ≡ take 8192 (lines_of taken).rest
+    → Runs (run_lines first (lines_of taken).whole) (Ok false) after before.got now.got → ReadsPast end mid.rest now.rest → HasRead first after end pending before now
+past_read first after AtEnd taken pending before mid now so_far size kept run past =
+    record { taken = taken; took = took_nothing taken before.rest mid.rest now.rest so_far past.0; ends = (omega (arith, size), past.1); keeps = kept; run = run }
+past_read first after (Ended end) taken pending before mid now so_far size kept run past = absurd past
+past_read first after Failed taken pending before mid now so_far size kept run past =
+    record { taken = taken; took = took_nothing taken before.rest mid.rest now.rest so_far past; ends = omega (arith, size); keeps = tt; run = run }
+past_read first after TooLong taken pending before mid now so_far size kept run past = record {
   taken = taken ++ past.0 ∷ [];
-  took = took_more taken (past.0 ∷ []) start mid now so_far past.1;
+  took = took_more taken (past.0 ∷ []) before.rest mid.rest now.rest so_far past.1;
   ends = length-append taken (past.0 ∷ []) ∙ ap (λ (n : ℕ). n + 1) size;
   keeps = tt;
-  run = subst (λ t. Runs (run_lines first (lines_of t).whole) (Ok false) after out_start out_now) (sym (first_of taken past.0 size)) run;
+  run = subst (λ t. Runs (run_lines first (lines_of t).whole) (Ok false) after before.got now.got) (sym (first_of taken past.0 size)) run;
 }
 
 piece_fits : (taken into tail : List ℕ) (count left : ℕ) → length taken + left ≡ limit → count ≤ left → length (taken ++ take count (into ++ tail)) ≤ limit
@@ -46,6 +47,10 @@ piece_fits taken into tail count left size fits = omega (arith, length-append ta
 -- a read into room for what is left takes no more
 read_fits : (into piece : List ℕ) (count most left : ℕ) → count ≤ length into → length into ≡ length (take most piece) → most ≡ min 4096 left → count ≤ left
 read_fits into piece count most left within size most_is = omega (arith, length-take most piece, within, size, most_is)
+
+-- nor more than a piece has at most
+read_short : (into tail piece : List ℕ) (count most left : ℕ) → count ≤ length into → length into ≡ length (take most piece) → most ≡ min 4096 left → length (take count (into ++ tail)) ≤ most_read
+read_short into tail piece count most left within size most_is = omega (arith, length-take count (into ++ tail), length-take most piece, within, size, most_is)
 
 more_size : (taken into tail : List ℕ) (count left : ℕ) → length taken + left ≡ limit → count ≤ length into → count ≤ left → length (taken ++ take count (into ++ tail)) + (left - count) ≡ limit
 more_size taken into tail count left size within fits =
@@ -70,26 +75,30 @@ feed-requires-clause-pending g c = is_pending c.read.invariant.taken c.read.pend
 pub feed-requires-clause-short : goal.feed-requires-clause-short
 feed-requires-clause-short g c = omega (arith, ap length c.read.invariant.rest, length-take 8192 (lines_of c.read.invariant.taken).rest)
 
-pub returns-in-Ok-true-clause-read : goal.returns-in-Ok-true-clause-read
-returns-in-Ok-true-clause-read g c =
+pub returns-in_default-feed-clause-read : goal.returns-in_default-feed-clause-read
+returns-in_default-feed-clause-read g c =
+    let inv = c.read.invariant in
+    let first = c.args.session.now.state in
     let piece = take c.in-Ok.count (c.read-in-read.new.into ++ drop c.min-most.result c.read.piece) in
+    let fits = read_fits c.read-in-read.new.into c.read.piece c.in-Ok.count c.min-most.result c.read.left c.in-Ok.ensures.within c.read-in-read.auto.into c.min-most.ensures in
+    let ran = c.feed.ensures.runs.told in
     record {
-      taken = c.read.invariant.taken ++ piece;
-      took = took_more c.read.invariant.taken piece _ _ _ c.read.invariant.took (took_piece c.read-in-read.new.into (drop c.min-most.result c.read.piece) c.in-Ok.count _ _ c.in-Ok.ensures.within c.in-Ok.ensures.taken);
-      ends = piece_fits c.read.invariant.taken c.read-in-read.new.into (drop c.min-most.result c.read.piece) c.in-Ok.count c.read.left c.read.invariant.size (read_fits c.read-in-read.new.into c.read.piece c.in-Ok.count c.min-most.result c.read.left c.in-Ok.ensures.within c.read-in-read.auto.into c.min-most.ensures);
+      taken = inv.taken ++ piece;
+      took = took_more inv.taken piece _ _ _ inv.took (took_piece c.read-in-read.new.into (drop c.min-most.result c.read.piece) c.in-Ok.count _ _ c.in-Ok.ensures.within c.in-Ok.ensures.taken);
+      ends = (piece_fits inv.taken c.read-in-read.new.into (drop c.min-most.result c.read.piece) c.in-Ok.count c.read.left inv.size fits, c.in_default-feed.not-Went);
       keeps = tt;
-      run = piece_runs c.args.session.now.state c.read.session.state c.feed.new.session.state c.read.invariant.taken piece c.read.pending.items (Ok true) _ _ _ c.read.invariant.told c.read.invariant.rest (rw c.in-Ok-true.field-0-test at c.in-Ok-true.ensures.runs.told);
-    }
-
-pub returns-in-Err-clause-read : goal.returns-in-Err-clause-read
-returns-in-Err-clause-read g c =
-    let piece = take c.in-Ok.count (c.read-in-read.new.into ++ drop c.min-most.result c.read.piece) in
-    record {
-      taken = c.read.invariant.taken ++ piece;
-      took = took_more c.read.invariant.taken piece _ _ _ c.read.invariant.took (took_piece c.read-in-read.new.into (drop c.min-most.result c.read.piece) c.in-Ok.count _ _ c.in-Ok.ensures.within c.in-Ok.ensures.taken);
-      ends = piece_fits c.read.invariant.taken c.read-in-read.new.into (drop c.min-most.result c.read.piece) c.in-Ok.count c.read.left c.read.invariant.size (read_fits c.read-in-read.new.into c.read.piece c.in-Ok.count c.min-most.result c.read.left c.in-Ok.ensures.within c.read-in-read.auto.into c.min-most.ensures);
-      keeps = tt;
-      run = piece_runs c.args.session.now.state c.read.session.state c.feed.new.session.state c.read.invariant.taken piece c.read.pending.items (Err c.in-Err.fault) _ _ _ c.read.invariant.told c.read.invariant.rest c.in-Err.ensures.runs.told;
+      run = (piece_runs first c.read.session.state c.feed.new.session.state inv.taken piece c.read.pending.items (told_end c.feed.result) _ _ _ inv.told inv.rest ran, record {
+        earlier = inv.taken;
+        piece = piece;
+        is = refl;
+        short = read_short c.read-in-read.new.into (drop c.min-most.result c.read.piece) c.read.piece c.in-Ok.count c.min-most.result c.read.left c.in-Ok.ensures.within c.read-in-read.auto.into c.min-most.ensures;
+        after = c.read.session.state;
+        mid = g.O.Sink.got c.read.out;
+        run = inv.told;
+        more =
+            let more_ran = run_lines c.read.session.state (lines_of (c.read.pending.items ++ piece)).whole in
+            goes_still more_ran.replies more_ran.end (told_end c.feed.result) c.feed.new.session.state _ _ ran;
+      });
     }
 
 pub read-preserved : goal.read-preserved
@@ -99,14 +108,16 @@ read-preserved g c =
       taken = c.read.invariant.taken ++ piece;
       took = took_more c.read.invariant.taken piece _ _ _ c.read.invariant.took (took_piece c.read-in-read.new.into (drop c.min-most.result c.read.piece) c.in-Ok.count _ _ c.in-Ok.ensures.within c.in-Ok.ensures.taken);
       size = more_size c.read.invariant.taken c.read-in-read.new.into (drop c.min-most.result c.read.piece) c.in-Ok.count c.read.left c.read.invariant.size c.in-Ok.ensures.within (read_fits c.read-in-read.new.into c.read.piece c.in-Ok.count c.min-most.result c.read.left c.in-Ok.ensures.within c.read-in-read.auto.into c.min-most.ensures);
-      told = piece_runs c.args.session.now.state c.read.session.state c.feed.new.session.state c.read.invariant.taken piece c.read.pending.items (Ok false) _ _ _ c.read.invariant.told c.read.invariant.rest (rw c.in-Ok-false.field-0-test at c.in-Ok-false.ensures.runs.told);
-      rest = piece_rest c.read.invariant.taken piece c.read.pending.items c.feed.new.pending.items c.args.session.now.state c.read.invariant.rest (c.in-Ok-false.ensures.rest (ap Ok c.in-Ok-false.field-0-test));
-      going = c.in-Ok-false.ensures.going (ap Ok c.in-Ok-false.field-0-test);
-      path = c.in-Ok-false.ensures.runs.path ∙ c.read.invariant.path;
-      counted = counted_then _ _ _ _ _ _ c.read.invariant.counted (counted_of _ _ _ _ _ _ c.in-Ok-false.ensures.runs.causes);
+      told = piece_runs c.args.session.now.state c.read.session.state c.feed.new.session.state c.read.invariant.taken piece c.read.pending.items (Ok false) _ _ _ c.read.invariant.told c.read.invariant.rest c.in-Went.ensures.runs.told;
+      rest = piece_rest c.read.invariant.taken piece c.read.pending.items c.feed.new.pending.items c.args.session.now.state c.read.invariant.rest (c.in-Went.ensures.rest refl);
+      going = c.in-Went.ensures.ended;
+      path = c.in-Went.ensures.runs.path ∙ c.read.invariant.path;
+      counted = counted_then _ _ _ _ _ _ c.read.invariant.counted (counted_of _ _ _ _ _ _ c.in-Went.ensures.runs.causes);
       script_counts = omega (arith, c.read.invariant.script_counts, c.in-Ok.ensures.cause.never_falls);
     }
 
 pub returns-clause-read : goal.returns-clause-read
 returns-clause-read g c =
-    past_read c.args.session.now.state c.read.session.state c.read_past.result c.read.invariant.taken c.read.pending.items _ _ _ _ _ c.read.invariant.took (omega arith) c.read.invariant.rest c.read.invariant.told c.read_past.ensures.past
+    past_read c.args.session.now.state c.read.session.state c.read_past.result c.read.invariant.taken c.read.pending.items
+    (outside_of g.S.Source g.O.Sink c.args.script.now c.args.out.now) (outside_of g.S.Source g.O.Sink c.read.script c.read.out) (outside_of g.S.Source g.O.Sink c.read_past.new.script c.read.out)
+    c.read.invariant.took (omega arith) c.read.invariant.rest c.read.invariant.told c.read_past.ensures.past

@@ -4,19 +4,20 @@ use Rattle.std.proofs.lemmas.List.{drop-map}
 use Rattle.console_core.proofs.Faulting.{hands_back}
 use Rattle.console_core.proofs.top.run.Goals as goal
 
-pub returns-in-Err-clause-outcome : goal.returns-in-Err-clause-outcome
-returns-in-Err-clause-outcome g c = record {
+pub returns-in-Err : goal.returns-in-Err
+returns-in-Err g c = record {
   asked = Err c.in-Err.error.word;
   is = (c.in-Err.ensures.refused c.in-Err.error).0 refl;
   usage = refl;
   too_small = tt;
   ends = record { rest = refl; put = refl };
+  counts = record { script = omega arith; sink = omega arith };
   cause = (refl, refl);
   handed_back = tt;
 }
 
-pub returns-clause-outcome : goal.returns-clause-outcome
-returns-clause-outcome g c =
+pub returns : goal.returns
+returns g c =
     let told = ap (λ (l : List g.row.F.Denot). map g.F.Folder.files l) c.from_word-folders.ensures ∙ sym (drop-map g.F.Folder.files c.in-Ok.request.first c.args.folders.items) in
     let all : c.in-Ok.request.first + c.in-Ok.request.folders ≡ length c.args.folders.items = omega (arith, c.in-Ok.ensures.folders, c.requires.one_each) in
     record {
@@ -25,6 +26,7 @@ returns-clause-outcome g c =
       usage = c.run_folders.ensures.usage;
       too_small = c.run_folders.ensures.too_small;
       ends = rw told at c.run_folders.ensures.ends;
+      counts = c.run_folders.ensures.counts;
       cause = c.run_folders.ensures.cause;
       handed_back = hands_back g.F.Folder.files g.F.Folder.folder_faults c.args.folders.items c.from_word-folders.result.items c.in-Ok.request c.from_word-folders.ensures c.run_folders.result all c.run_folders.ensures.handed_over;
     }
