@@ -3,6 +3,7 @@ ghost use Rattle.std.specs.Prelude.{◌≡◌, ◌≢◌, ◌↔◌, ◌<◌, �
 ghost use Rattle.std.specs.Io.KnownBytes.{Consumes};
 ghost use Rattle.quake_cli.specs.HostNames.{stays_inside, IsHostName};
 
+use arrayvec::ArrayVec;
 use base_fields::has_step_up;
 use outside_io::{Folder, FolderFailed};
 use std::alloc::{AllocError, Global};
@@ -10,18 +11,32 @@ use std::fs::File;
 use std::io::{ErrorKind, Read, Seek, SeekFrom};
 use std::{fs, io};
 
+// How many files are kept open at most.
+const MOST_OPEN: usize = 32;
+
+// A file that is kept open, and its name.
+#[derive(Drop)]
+struct OpenFile {
+    name: ArrayVec<u8, 63>,
+    file: File,
+}
+
 /// A folder of the host's file system. It tells no files, and counts its calls and faults.
 ///
 /// Its files are the regular files of the host below it, links followed. A missing file, and anything that is no regular
 /// file, answers `None`, and so does a name that is no text, that has more than 63 bytes or a zero byte, or that leads out
 /// of the folder: one that is empty, begins with a slash, or has a part `..`. A folder that isn't there is empty.
 /// A failed call of the host, a file that ends early, and a length of 2^62 bytes or more are faults.
+///
+/// A file of which a part was read, as of a pack, is kept open, 32 at most: further reads come from the file that it was then,
+/// whatever stands at its name. A file that is read whole is opened for each read.
 #[derive(Drop)]
 pub struct DirFolder {
     rt: HostRuntime,
     root: String,
     // The path of the call, of which there is room for the longest.
     path: String,
+    open: Vec<OpenFile>,
     calls: u64,
     faults: u64,
     ghost room: { length (string_bytes root) + 64 ≤ string_capacity path },
@@ -41,9 +56,39 @@ impl DirFolder {
             rt,
             root: String::from_str(alloc, root)?,
             path: String::with_capacity(alloc, room)?,
+            open: Vec::with_capacity(alloc, MOST_OPEN)?,
             calls: 0,
             faults: 0,
         })
+    }
+
+    // Fills `into` from the file of this name, at the path that was written.
+    fn read_named(&mut self, name: &[u8], at: u64, into: &mut [u8]) -> io::Result<()>
+        ensures counts { (self.new.calls ≡ self.old.calls) × (self.new.faults ≡ self.old.faults) }
+    {
+        for open in &mut self.open {
+            if open.name.as_slice() == name {
+                return fill_at(&mut open.file, at, into);
+            }
+        }
+        let (mut file, size) = open_file(&self.rt, &self.path)?;
+        fill_at(&mut file, at, into)?;
+        if (into.len() as u64) < size {
+            self.keep_open(name, file);
+        }
+        Ok(())
+    }
+
+    // Keeps a file open, where there is room.
+    fn keep_open(&mut self, name: &[u8], file: File)
+        ensures counts { (self.new.calls ≡ self.old.calls) × (self.new.faults ≡ self.old.faults) }
+    {
+        let Ok(name) = ArrayVec::try_from(name) else {
+            return;
+        };
+        if self.open.len() < MOST_OPEN {
+            let _ = self.open.push(OpenFile { name, file });
+        }
     }
 }
 
@@ -84,7 +129,7 @@ impl Folder for DirFolder {
     {
         self.calls = self.calls.saturating_add(1);
         if write_path(&mut self.path, &self.root, name) {
-            if read_file(&self.rt, &self.path, at, into).is_ok() {
+            if self.read_named(name, at, into).is_ok() {
                 return Ok(());
             }
         }
@@ -160,16 +205,20 @@ fn length(rt: &HostRuntime, path: &str) -> io::Result<Option<u64>>
     }
 }
 
-// Fills `into` with the bytes of the file at this path from `at` on. What is no regular file isn't opened: to open a FIFO
-// waits for its writer, and to open a device may act on it. The host can't be asked for both at once, so what takes the
-// file's place between the two calls is opened.
-fn read_file(rt: &HostRuntime, path: &str, at: u64, into: &mut [u8]) -> io::Result<()> {
-    if length(rt, path)?.is_none() {
-        return Err(io::Error::from(ErrorKind::NotFound));
+// Opens the regular file at this path, and tells its length. What is no regular file isn't opened: to open a FIFO waits for
+// its writer, and to open a device may act on it. The host can't be asked for both at once, so what takes the file's place
+// between the two calls is opened.
+fn open_file(rt: &HostRuntime, path: &str) -> io::Result<(File, u64)> {
+    match length(rt, path)? {
+        Some(size) => Ok((File::open(rt, path)?, size)),
+        None => Err(io::Error::from(ErrorKind::NotFound)),
     }
-    let mut file = File::open(rt, path)?;
+}
+
+// Fills `into` with the bytes of a file from `at` on.
+fn fill_at(file: &mut File, at: u64, into: &mut [u8]) -> io::Result<()> {
     file.seek(SeekFrom::Start(at))?;
-    fill(&mut file, into)
+    fill(file, into)
 }
 
 // Fills `into` with the next bytes that are read. An early end is an error.

@@ -97,6 +97,26 @@ fn a_folder_reads(rt: HostRuntime) -> Result<(), Fail> {
     leave(&rt, "test_reads")
 }
 
+/// A file of which a part was read stays the one that it was; one that is read whole is looked for at each read.
+#[test]
+fn a_file_is_kept_open(rt: HostRuntime) -> Result<(), Fail> {
+    enter(&rt, "test_open")?;
+    fs::write(&rt, "folder/whole.txt", "hello")?;
+    let mut folder = DirFolder::create(rt.alloc(), rt, "folder")?;
+    let mut part = [0u8; 3];
+    let mut whole = [0u8; 5];
+    assert_eq!(rt; folder.read_at(b"a.txt", 0, &mut part), Ok(()));
+    assert_eq!(rt; folder.read_at(b"whole.txt", 0, &mut whole), Ok(()));
+    for name in ["a.txt", "whole.txt"] {
+        fs::remove_file(&rt, format!(in rt.alloc(); "folder/{name}")?)?;
+    }
+    assert_eq!(rt; folder.read_at(b"a.txt", 2, &mut part), Ok(()));
+    assert_eq!(rt; &part, b"llo");
+    assert_eq!(rt; folder.read_at(b"whole.txt", 0, &mut whole), Err(FolderFailed));
+    assert_eq!(rt; folder.len_of(b"a.txt"), Ok(None));
+    leave(&rt, "test_open")
+}
+
 /// Where a word names no folder every file is missing. A path that is too long for the host is a fault.
 #[test]
 fn no_folder_is_empty(rt: HostRuntime) -> Result<(), Fail> {
