@@ -36,6 +36,8 @@ pub struct DirFolder {
     root: String,
     // The path of the call, of which there is room for the longest.
     path: String,
+    // The length of the file at that path, where the call asked for it.
+    size: Option<u64>,
     open: Vec<OpenFile>,
     calls: u64,
     faults: u64,
@@ -56,23 +58,44 @@ impl DirFolder {
             rt,
             root: String::from_str(alloc, root)?,
             path: String::with_capacity(alloc, room)?,
+            size: None,
             open: Vec::with_capacity(alloc, MOST_OPEN)?,
             calls: 0,
             faults: 0,
         })
     }
 
+    // The length of the file of this name, where the last call asked for it, so that the host needn't be asked again.
+    fn known_size(&self, name: &[u8]) -> Option<u64> {
+        if self.path.len() == self.root.len() + 1 + name.len()
+            && self.path.as_bytes().ends_with(name)
+        {
+            return self.size;
+        }
+        None
+    }
+
     // Fills `into` from the file of this name, at the path that was written.
-    fn read_named(&mut self, name: &[u8], at: u64, into: &mut [u8]) -> io::Result<()>
+    fn read_named(
+        &mut self,
+        name: &[u8],
+        known: Option<u64>,
+        at: u64,
+        into: &mut [u8],
+    ) -> io::Result<()>
         ensures counts { (self.new.calls ≡ self.old.calls) × (self.new.faults ≡ self.old.faults) }
     {
         for open in &mut self.open {
             if open.name.as_slice() == name {
-                return fill_at(&mut open.file, at, into);
+                open.file.seek(SeekFrom::Start(at))?;
+                return fill(&mut open.file, into);
             }
         }
-        let (mut file, size) = open_file(&self.rt, &self.path)?;
-        fill_at(&mut file, at, into)?;
+        let (mut file, size) = open_file(&self.rt, &self.path, known)?;
+        if at != 0 {
+            file.seek(SeekFrom::Start(at))?;
+        }
+        fill(&mut file, into)?;
         if (into.len() as u64) < size {
             self.keep_open(name, file);
         }
@@ -110,11 +133,15 @@ impl Folder for DirFolder {
         ensures faults { self.new.faults ≡ after_call result self.old.faults }
     {
         self.calls = self.calls.saturating_add(1);
+        self.size = None;
         if !write_path(&mut self.path, &self.root, name) {
             return Ok(None);
         }
         match length(&self.rt, &self.path) {
-            Ok(len) => Ok(len),
+            Ok(len) => {
+                self.size = len;
+                Ok(len)
+            }
             Err(_) => {
                 self.faults = self.faults.saturating_add(1);
                 Err(FolderFailed)
@@ -128,8 +155,10 @@ impl Folder for DirFolder {
         ensures faults { self.new.faults ≡ after_call result self.old.faults }
     {
         self.calls = self.calls.saturating_add(1);
+        let known = self.known_size(name);
+        self.size = None;
         if write_path(&mut self.path, &self.root, name) {
-            if self.read_named(name, at, into).is_ok() {
+            if self.read_named(name, known, at, into).is_ok() {
                 return Ok(());
             }
         }
@@ -205,20 +234,18 @@ fn length(rt: &HostRuntime, path: &str) -> io::Result<Option<u64>>
     }
 }
 
-// Opens the regular file at this path, and tells its length. What is no regular file isn't opened: to open a FIFO waits for
-// its writer, and to open a device may act on it. The host can't be asked for both at once, so what takes the file's place
-// between the two calls is opened.
-fn open_file(rt: &HostRuntime, path: &str) -> io::Result<(File, u64)> {
-    match length(rt, path)? {
+// Opens the regular file at this path, and tells its length, which may be known from the call before. What is no regular file
+// isn't opened: to open a FIFO waits for its writer, and to open a device may act on it. The host can't be asked for both at
+// once, so what takes the file's place between the two calls is opened.
+fn open_file(rt: &HostRuntime, path: &str, known: Option<u64>) -> io::Result<(File, u64)> {
+    let size = match known {
+        Some(size) => Some(size),
+        None => length(rt, path)?,
+    };
+    match size {
         Some(size) => Ok((File::open(rt, path)?, size)),
         None => Err(io::Error::from(ErrorKind::NotFound)),
     }
-}
-
-// Fills `into` with the bytes of a file from `at` on.
-fn fill_at(file: &mut File, at: u64, into: &mut [u8]) -> io::Result<()> {
-    file.seek(SeekFrom::Start(at))?;
-    fill(file, into)
 }
 
 // Fills `into` with the next bytes that are read. An early end is an error.

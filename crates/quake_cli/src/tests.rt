@@ -112,7 +112,10 @@ fn a_file_is_kept_open(rt: HostRuntime) -> Result<(), Fail> {
     }
     assert_eq!(rt; folder.read_at(b"a.txt", 2, &mut part), Ok(()));
     assert_eq!(rt; &part, b"llo");
-    assert_eq!(rt; folder.read_at(b"whole.txt", 0, &mut whole), Err(FolderFailed));
+    assert_eq!(rt;
+        folder.read_at(b"whole.txt", 0, &mut whole),
+        Err(FolderFailed)
+    );
     assert_eq!(rt; folder.len_of(b"a.txt"), Ok(None));
     leave(&rt, "test_open")
 }
