@@ -312,10 +312,10 @@ impl PlainCache {
         ensures { (b : CacheBlock) → slice_get self.old.blocks from ≡ Some b →
             self.new ≡ moved self.old b gap.place }
     {
-        let user = self.cells[from].user();
-        touch(&mut self.recency, user);
+        let mover = self.cells[from].user();
+        touch(&mut self.recency, mover);
         shift(&mut self.cells, from, gap.at, gap.place);
-        self.places[user as usize] = Some(gap.place);
+        self.places[mover as usize] = Some(gap.place);
     }
 
     // Whether the lowest block starts below a place.

@@ -23,7 +23,7 @@ entered : (c : After-touch) → c.index.result.now.user < length c.self.inside.p
 entered c = placed_listed c.args.from c.index.result.now c.self.invariant.places c.self.invariant.order.one_each (read c)
 
 pub index_mut-requires : goal.index_mut-requires
-index_mut-requires c = omega (arith, c.user-user.ensures, entered (goal.at.index_mut-requires c).After-touch, c.self.inside.places.ok.0)
+index_mut-requires c = omega (arith, c.user-mover.ensures, entered (goal.at.index_mut-requires c).After-touch, c.self.inside.places.ok.0)
 
 pub shift-requires-clause-to : goal.shift-requires-clause-to
 shift-requires-clause-to c = omega (arith, (moves (goal.at.shift-requires-clause-to c).After-touch).inside, c.self.inside.cells.ok.0)
@@ -31,7 +31,7 @@ shift-requires-clause-to c = omega (arith, (moves (goal.at.shift-requires-clause
 recency : (c : After-touch) → take c.self.inside.recency.len (c.touch.new.recency ++ drop (length c.touch.new.recency) c.self.inside.recency.items) ≡ shifted c.index.result.now.user c.index.result.now.user c.self.inside.recency.items
 recency c =
     written_whole c.touch.new.recency c.self.inside.recency.items c.self.inside.recency.len (c.touch.auto.recency ∙ ap length c.deref_mut.ensures.value) c.self.inside.recency.ok.0
-    ∙ c.touch.ensures ∙ rw (c.deref_mut.ensures.value, c.user-user.ensures) refl
+    ∙ c.touch.ensures ∙ rw (c.deref_mut.ensures.value, c.user-mover.ensures) refl
 
 move : (c : After-touch) → IsMoving (cache_in c.self.inside) c.args.from c.args.gap.at c.args.gap.place c.index.result.now
 move c = moving (cache_in c.self.inside) c.args.from c.args.gap.at c.args.gap.place c.index.result.now c.self.invariant.order (read c) (moves c)
@@ -47,7 +47,7 @@ invariant_of-self c =
     let is = now (goal.at.invariant_of-self c).After-shift (read d) (recency d) (move d) in
     record {
       order = subst (λ e. IsCache e (2 ^ 32) 0 (2 ^ 26)) is (move d).order;
-      places = rw c.user-user.ensures (subst (IsTable (set c.self.inside.places.items c.index.result.now.user (Some c.args.gap.place))) (ap (λ (e : Cache). e.blocks) is)
+      places = rw c.user-mover.ensures (subst (IsTable (set c.self.inside.places.items c.index.result.now.user (Some c.args.gap.place))) (ap (λ (e : Cache). e.blocks) is)
           (table-moved c.index.result.now c.args.gap.place c.self.invariant.places (entered d)));
       used = c.self.invariant.used ∙ sym (move d).size ∙ ap (λ (e : Cache). size_of_cache e.blocks) is;
     }
