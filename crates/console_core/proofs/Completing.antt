@@ -40,20 +40,21 @@ of_path : {run : Option PathSeen → Type 0} (told : Option (List (List File))) 
 of_path None is = (None, is)
 of_path (Some folders) is = (Some (path_on folders is.0), is.2)
 
-module _ {F : Type 0} (words : List (List ℕ)) (files_of : F → Option (List File)) (faults_of : F → ℕ) (folders : List F)
+module _ {F : Type 0} (words : List (List ℕ)) (files_of : F → Option (List File)) (faults_of calls_of : F → ℕ) (folders : List F)
     (event_room : ℕ) (before now : Outside) where
   abbrev HasThis : Status F → Type 0
-  HasThis status = HasOutcome event_room words files_of faults_of folders before now status
+  HasThis status = HasOutcome event_room words files_of faults_of calls_of folders before now status
 
   abbrev small_status : Status F
   small_status = TooSmall
 
   -- folders that have a bad pack are no path
-  bad_path : (folder pack : ℕ) (fault : PackFault) (told : List (Option (List File))) (other : Request) → Ends {F = F} told other event_room before now (BadPack folder pack fault) → IfSome (all_some told) (λ folders. IsErr (mounted folders))
-  bad_path folder pack fault told other (inl opening) =
+  bad_path : (folder pack : ℕ) (fault : PackFault) (held : List F) (other : Request) → Ends {F = F} files_of calls_of held other event_room before now (BadPack folder pack fault) → IfSome (all_some (map files_of held)) (λ folders. IsErr (mounted folders))
+  bad_path folder pack fault held other (inl opening) =
       let bad = opening.0 in
+      let told = map files_of held in
       if_some (all_some told) (λ folders all. bad_folders (bad_pack folder pack fault) 0 folder told folders [] bad.files all bad.is (subst (λ n. IfSome bad.files (λ files. own_mounts n files ≡ Err (bad_pack folder pack fault))) (from_zero folder) bad.own))
-  bad_path folder pack fault told other (inr ends) = absurd (of_path (all_some told) ends.1).1
+  bad_path folder pack fault held other (inr ends) = absurd (of_path (all_some (map files_of held)) ends.1).1
 
   module _ (request : Request) (asks : IsAsked words 8 request) where
     no_usage : (word : ℕ) (asked : Result Request ℕ) → Asks words asked → Some word ≡ fault_of asked → ⊥
@@ -64,22 +65,22 @@ module _ {F : Type 0} (words : List (List ℕ)) (files_of : F → Option (List F
     no_small (Ok other) is e small fits = fits (subst AsksTooMuch (one_request words 8 other request is asks) (small.0 refl))
     no_small (Err bad) is e small fits = absurd (cc)
 
-    no_past : (asked : Result Request ℕ) → None ≡ fault_of asked → EndsFor {F = F} asked event_room (map files_of folders) before now ScriptTooLong → IsSomeAnd before.rest (λ bytes. length bytes ≤ 1048576) → ⊥
+    no_past : (asked : Result Request ℕ) → None ≡ fault_of asked → EndsFor {F = F} asked event_room files_of calls_of folders before now ScriptTooLong → IsSomeAnd before.rest (λ bytes. length bytes ≤ 1048576) → ⊥
     no_past (Ok other) e (inl opening) short = opening.0
     no_past (Ok other) e (inr ends) short =
-        let past = of_path (all_some (drop other.first (map files_of folders))) ends.1 in
+        let past = of_path (all_some (map files_of (drop other.first folders))) ends.1 in
         not_past past.1.taken before.rest now.rest past.1.took past.1.size short
     no_past (Err bad) e ends short = absurd (cc)
 
-    no_path : (folder pack : ℕ) (fault : PackFault) (asked : Result Request ℕ) → Asks words asked → None ≡ fault_of asked → EndsFor {F = F} asked event_room (map files_of folders) before now (BadPack folder pack fault)
-        → IfSome (all_some (drop request.first (map files_of folders))) (λ told. IsErr (mounted told))
+    no_path : (folder pack : ℕ) (fault : PackFault) (asked : Result Request ℕ) → Asks words asked → None ≡ fault_of asked → EndsFor {F = F} asked event_room files_of calls_of folders before now (BadPack folder pack fault)
+        → IfSome (all_some (map files_of (drop request.first folders))) (λ told. IsErr (mounted told))
     no_path folder pack fault (Ok other) is e ends =
-        subst (λ (r : Request). IfSome (all_some (drop r.first (map files_of folders))) (λ told. IsErr (mounted told))) (one_request words 8 other request is asks)
-        (bad_path folder pack fault (drop other.first (map files_of folders)) other ends)
+        subst (λ (r : Request). IfSome (all_some (map files_of (drop r.first folders))) (λ told. IsErr (mounted told))) (one_request words 8 other request is asks)
+        (bad_path folder pack fault (drop other.first folders) other ends)
     no_path folder pack fault (Err bad) is e ends = absurd (cc)
 
     -- lawful words and a short script come to their end where no count of the script or the sink rises
-    pub completes : (status : Status F) → HasThis status → (AsksTooMuch request → ⊥) → IsSomeAnd before.rest (λ bytes. length bytes ≤ 1048576) → (Rose before.script_faults now.script_faults → ⊥) → (Rose before.sink_faults now.sink_faults → ⊥) → IsComplete (all_some (drop request.first (map files_of folders))) status
+    pub completes : (status : Status F) → HasThis status → (AsksTooMuch request → ⊥) → IsSomeAnd before.rest (λ bytes. length bytes ≤ 1048576) → (Rose before.script_faults now.script_faults → ⊥) → (Rose before.sink_faults now.sink_faults → ⊥) → IsComplete (all_some (map files_of (drop request.first folders))) status
     completes Done o fits short script sink = tt
     completes OutOfMemory o fits short script sink = tt
     completes (FolderFault word folder) o fits short script sink = tt

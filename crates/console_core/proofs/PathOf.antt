@@ -7,6 +7,7 @@ use Rattle.std.proofs.lemmas.List.{length-append, length-map, map-append, map_pu
 use Rattle.outside_io.specs.Causes.{Rose}
 use Rattle.outside_io.specs.Files.{File}
 use Rattle.search_paths.specs.Answers.{IsMounted, IsOfFolder}
+use Rattle.search_paths.specs.Calls.{Asks}
 use Rattle.search_paths.specs.Counts.{NoneFalls}
 use Rattle.search_paths.specs.Mounts.{Mount, BadPack, bad_pack, own_mounts, with_folders, mounted, result_and_then}
 use Rattle.search_paths.specs.Path.{PathState, all_some, counts_of, told_mounts, mounts_of, AddsFolder}
@@ -15,7 +16,7 @@ use Rattle.search_paths.specs.declared.answers.MountError.TheVariants as error
 use Rattle.search_paths.proofs.FindLaws.{each_is_there}
 use Rattle.search_paths.proofs.MountLaws.{with_folders-append, mounts-mounted}
 use Rattle.console_core.proofs.Knowing.{if_some, at_some}
-use Rattle.console_core.specs.Ends.{IsPathOf, IsOpened, IsUnopened, OpeningEnds, HandsOver, HaveNoBadPack, IsFirstBadPack}
+use Rattle.console_core.specs.Ends.{IsPathOf, IsOpened, IsUnopened, OpeningEnds, HandsOver, HaveNoBadPack, IsFirstBadPack, FailsAt}
 use Rattle.console_core.specs.declared.status.Status.{Status}
 use Rattle.console_core.specs.declared.status.Status.TheVariants.{FolderFault, TooSmall}
 
@@ -176,6 +177,22 @@ module _ {F : Type 0} (files_of : F → Option (List File)) (faults_of calls_of 
           ∙ take-append_seam (map files_of held) (files_of folder ∷ map files_of rest) in
       subst (HaveNoBadPack 0) (sym front) opened.good
 
+  -- the next folder failed
+  fails_next : (rest : List F) (number : ℕ) (failed : F) → number ≡ length before.folders → slice_get after.folders number ≡ Some failed → AddsFolder files_of faults_of calls_of folder before after (Err (error.FolderFault number))
+      → FailsAt files_of calls_of (held ++ folder ∷ rest) number failed
+  fails_next rest number failed last is added =
+      let there : slice_get after.folders number ≡ Some added.now = ap (λ l. slice_get l number) added.last ∙ ap (slice_get (before.folders ++ added.now ∷ [])) last ∙ get_after before.folders [] added.now in
+      let same : added.now ≡ failed = cc in
+      let here : number ≡ length held = omega (arith, last, held_length) in
+      let asks = added.asks in
+      let kept : Asks files_of calls_of 0 folder added.now (Err (error.FolderFault number)) = record { taken = asks.taken; next = asks.next; called = asks.called; stops = asks.stops; good = asks.good; needed = asks.needed } in
+      record {
+        before = folder;
+        is = ap (slice_get (held ++ folder ∷ rest)) here ∙ get_after held rest folder;
+        good = good_before rest number last;
+        asks = subst (λ f. Asks files_of calls_of 0 folder f (Err (error.FolderFault number))) same kept;
+      }
+
   -- the folder that is handed over is what became of the next one
   failed_last : (rest : List F) (number first : ℕ) (failed : F) → number ≡ length before.folders → slice_get after.folders number ≡ Some failed → AddsFolder files_of faults_of calls_of folder before after (Err (error.FolderFault number))
       → HandsOver first files_of faults_of (map files_of (held ++ folder ∷ rest)) (map faults_of (held ++ folder ∷ rest)) (FolderFault (first + number) failed)
@@ -192,13 +209,13 @@ module _ {F : Type 0} (files_of : F → Option (List File)) (faults_of calls_of 
 
   abbrev Ended : List F → ℕ → Status F → Type 0
   Ended rest first status =
-      OpeningEnds first (map files_of (held ++ folder ∷ rest)) status × HandsOver first files_of faults_of (map files_of (held ++ folder ∷ rest)) (map faults_of (held ++ folder ∷ rest)) status
+      OpeningEnds first files_of calls_of (held ++ folder ∷ rest) status × HandsOver first files_of faults_of (map files_of (held ++ folder ∷ rest)) (map faults_of (held ++ folder ∷ rest)) status
 
   -- the opening ended with the next folder
   pub opens_no_more : (rest : List F) (fault : MountError) (first : ℕ) (status : Status F) → IfSome (files_of folder) (λ files. IsMounted (own_mounts (length before.folders) files) (told_mounts files_of before) (told_mounts files_of after) (Err fault))
       → IsOfFolder (length before.folders) fault
       → (IsErrOf {T = Unit {0}} (Err fault) error.OutOfMemory × (after.folders ≡ before.folders)) ⊎ AddsFolder files_of faults_of calls_of folder before after (Err fault)
-      → IsUnopened fault first after status → IsOpened first files_of faults_of (held ++ folder ∷ rest) (Err status)
+      → IsUnopened fault first after status → IsOpened first files_of faults_of calls_of (held ++ folder ∷ rest) (Err status)
   opens_no_more rest (error.BadPack number pack fault) first status given own kept is =
       let here : number < length (map files_of (held ++ folder ∷ rest)) = omega (arith, own.0, held_length, length-map (held ++ folder ∷ rest) files_of, length-append held (folder ∷ rest)) in
       let first_bad : IsFirstBadPack (map files_of (held ++ folder ∷ rest)) (bad_pack number pack fault) = record {
@@ -210,7 +227,7 @@ module _ {F : Type 0} (files_of : F → Option (List File)) (faults_of calls_of 
       subst (λ (s : Status F). Ended rest first s) (sym is) (first_bad, (here, own.1))
   opens_no_more rest (error.FolderFault number) first status given own (inl none) is = absurd (let same = none.0 in cc)
   opens_no_more rest (error.FolderFault number) first status given own (inr added) is =
-      subst (λ (s : Status F). Ended rest first s) (sym is.1) ((number, refl, good_before rest number own), failed_last rest number first is.0 own is.2 added)
+      subst (λ (s : Status F). Ended rest first s) (sym is.1) ((number, refl, fails_next rest number is.0 own is.2 added), failed_last rest number first is.0 own is.2 added)
   opens_no_more rest error.OutOfMemory first status given own kept is = subst (λ (s : Status F). Ended rest first s) (sym is) (tt, tt)
 
 pub not_small : {F : Type 0} (fault : MountError) (first : ℕ) (path : PathState F) (status : Status F) → IsUnopened fault first path status → status ≡ TooSmall → ⊥

@@ -16,10 +16,12 @@ use Rattle.pack_files.specs.declared.faults.PackFault.{PackFault}
 use Rattle.pack_files.specs.declared.faults.PackFault.TheVariants.{NotPack, TooMany, DirOutside}
 use Rattle.reply_pieces.specs.Pieces.{joined}
 use Rattle.search_paths.specs.Mounts.{Mount, BadPack as BadPackOf, bad_pack, own_mounts, mounted}
+use Rattle.search_paths.specs.Calls.{Asks as MakesCalls}
 use Rattle.search_paths.specs.Counts.{NoneFalls}
 use Rattle.search_paths.specs.Path.{PathState, all_some, told_of, counts_of, mounts_of}
 use Rattle.search_paths.specs.declared.answers.MountError.{MountError}
 use Rattle.search_paths.specs.declared.answers.MountError.TheVariants as error
+use Rattle.console_session.specs.declared.session.TheConstants.{USERS}
 use Rattle.console_session.specs.declared.ends.Fault.{Fault}
 use Rattle.console_session.specs.declared.ends.Fault.TheVariants as fault
 use Rattle.console_session.specs.declared.ends.StepEnd.{StepEnd}
@@ -93,10 +95,10 @@ fault_of (Err word) = Some word
 abbrev pub AsksTooMuch : Request → Type 0
 AsksTooMuch request = 1024 * request.heap < hunk_need (1024 * request.zone)
 
--- the state at the start, with a heap and a zone of so many KB, 768 cache users and room for so many events
+-- the state at the start, with a heap and a zone of so many KB, and room for so many events
 abbrev pub first_state : Request → (event_room : ℕ) → PathSeen → State
 first_state request event_room path =
-    started (new_memory (1024 * request.heap) (1024 * request.zone) 768 event_room) path
+    started (new_memory (1024 * request.heap) (1024 * request.zone) USERS event_room) path
 
 -- the number of the word of a folder, by its number among those that are asked for; the first folder's word has this number
 abbrev pub word_of : (first number : ℕ) → ℕ
@@ -199,28 +201,39 @@ pub record IsFirstBadPack (told : List (Option (List File))) (bad : BadPackOf) :
   pub before : HaveNoBadPack 0 (take bad.folder told)
   pub own : IfSome files (λ all. own_mounts bad.folder all ≡ Err bad)
 
--- What may end the opening, where the first folder's word has this number. Those before a folder that failed have no bad pack.
-abbrev pub OpeningEnds : {F : Type 0} → (word : ℕ) → List (Option (List File)) → Status F → Type 0
-OpeningEnds word told OutOfMemory = ⊤
-OpeningEnds word told TooSmall = ⊤
-OpeningEnds word told (BadPack folder pack fault) = IsFirstBadPack told (bad_pack folder pack fault)
-OpeningEnds word told (FolderFault failed folder) =
-    (number : ℕ) × (failed ≡ word_of word number) × HaveNoBadPack 0 (take number told)
-OpeningEnds word told status = ⊥
+-- How the mounting of these folders failed at the one of this number, which is this one now: those before it have no bad pack,
+-- and of its own packs none is bad before the one at which it failed, which its calls tell.
+pub record FailsAt {F : Type 0} (files_of : F → Option (List File)) (calls_of : F → ℕ) (folders : List F) (number : ℕ)
+    (folder : F) : Type 0 where
+  pub before : F
+  pub is : slice_get folders number ≡ Some before
+  pub good : HaveNoBadPack 0 (take number (map files_of folders))
+  pub asks : MakesCalls files_of calls_of 0 before folder (Err (error.FolderFault number))
+
+-- What may end the opening, where the first folder's word has this number.
+abbrev pub OpeningEnds : {F : Type 0} → (word : ℕ) → (F → Option (List File)) → (F → ℕ) → List F → Status F → Type 0
+OpeningEnds word files_of calls_of folders OutOfMemory = ⊤
+OpeningEnds word files_of calls_of folders TooSmall = ⊤
+OpeningEnds word files_of calls_of folders (BadPack folder pack fault) =
+    IsFirstBadPack (map files_of folders) (bad_pack folder pack fault)
+OpeningEnds word files_of calls_of folders (FolderFault failed folder) =
+    (number : ℕ) × (failed ≡ word_of word number) × FailsAt files_of calls_of folders number folder
+OpeningEnds word files_of calls_of folders status = ⊥
 
 -- The opening ended, with nothing taken and nothing put; or a run did, on the path of the folders, which have no bad pack.
-abbrev pub Ends : {F : Type 0} → List (Option (List File)) → Request → (event_room : ℕ) → (before now : Outside)
-    → Status F → Type 0
-Ends told request event_room before now status =
-    (OpeningEnds request.first told status × IsUntouched before now)
-    ⊎ (HaveNoBadPack 0 told × OnPath (all_some told)
+abbrev pub Ends : {F : Type 0} → (F → Option (List File)) → (F → ℕ) → List F → Request → (event_room : ℕ)
+    → (before now : Outside) → Status F → Type 0
+Ends files_of calls_of folders request event_room before now status =
+    (OpeningEnds request.first files_of calls_of folders status × IsUntouched before now)
+    ⊎ (HaveNoBadPack 0 (map files_of folders) × OnPath (all_some (map files_of folders))
         (λ path. RunEnds (option_map (first_state request event_room) path) request.first before now status))
 
 -- What was taken and put by words, which may be faulty. The folders that are asked for are those of the last words.
-abbrev pub EndsFor : {F : Type 0} → Result Request ℕ → (event_room : ℕ) → List (Option (List File)) → (before now : Outside)
-    → Status F → Type 0
-EndsFor (Ok request) event_room told before now status = Ends (drop request.first told) request event_room before now status
-EndsFor (Err word) event_room told before now status = IsUntouched before now
+abbrev pub EndsFor : {F : Type 0} → Result Request ℕ → (event_room : ℕ) → (F → Option (List File)) → (F → ℕ) → List F
+    → (before now : Outside) → Status F → Type 0
+EndsFor (Ok request) event_room files_of calls_of folders before now status =
+    Ends files_of calls_of (drop request.first folders) request event_room before now status
+EndsFor (Err word) event_room files_of calls_of folders before now status = IsUntouched before now
 
 -- the counts are as they were
 abbrev pub IsUncalled : (before now : Outside) → Type 0
@@ -290,11 +303,11 @@ pub record IsPathOf {F : Type 0} (files_of : F → Option (List File)) (faults_o
       mounts_of files_of path ≡ Some mounts))
 
 -- The folders were mounted one after another; or one of them has the first bad pack, or failed.
-abbrev pub IsOpened : {F : Type 0} → (first : ℕ) → (F → Option (List File)) → (F → ℕ) → List F
+abbrev pub IsOpened : {F : Type 0} → (first : ℕ) → (F → Option (List File)) → (faults calls : F → ℕ) → List F
     → Result (PathState F) (Status F) → Type 0
-IsOpened first files_of faults_of folders (Ok path) = IsPathOf files_of faults_of folders path
-IsOpened first files_of faults_of folders (Err status) =
-    OpeningEnds first (map files_of folders) status
+IsOpened first files_of faults_of calls_of folders (Ok path) = IsPathOf files_of faults_of folders path
+IsOpened first files_of faults_of calls_of folders (Err status) =
+    OpeningEnds first files_of calls_of folders status
     × HandsOver first files_of faults_of (map files_of folders) (map faults_of folders) status
 
 -- the status of a run whose last folder was not mounted
@@ -307,12 +320,12 @@ IsUnopened error.OutOfMemory first path status = status ≡ OutOfMemory
 -- What the words ask for, which is one thing, or which of them breaks the rule; and what came of it: what was taken and put, whose
 -- fault it was, and what was handed back.
 pub record HasOutcome {F : Type 0} (event_room : ℕ) (words : List (List ℕ)) (files_of : F → Option (List File))
-    (faults_of : F → ℕ) (folders : List F) (before now : Outside) (status : Status F) : Type 0 where
+    (faults_of calls_of : F → ℕ) (folders : List F) (before now : Outside) (status : Status F) : Type 0 where
   pub asked : Result Request ℕ
   pub is : Asks words asked
   pub usage : usage_of status ≡ fault_of asked
   pub too_small : IfOk asked (λ request. (status ≡ TooSmall) ↔ AsksTooMuch request)
-  pub ends : EndsFor asked event_room (map files_of folders) before now status
+  pub ends : EndsFor asked event_room files_of calls_of folders before now status
   pub counts : NoneFell before now
   pub cause : HasOwnCause before now status
   pub handed_back : HandsBack files_of faults_of folders asked status

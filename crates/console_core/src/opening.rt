@@ -39,7 +39,7 @@ pub fn mount_all<F: Folder>(
 ) -> Result<Paths<F>, Status<F>>
     requires few { vec_len folders ≤ 65536 }
     requires small { first + vec_len folders < 2 ^ 32 }
-    ensures opened { IsOpened first F.files F.folder_faults folders.items result }
+    ensures opened { IsOpened first F.files F.folder_faults F.folder_calls folders.items result }
     ensures not_small { IfErr result (λ status. status ≡ Status.TooSmall → ⊥) }
 {
     let Ok(mut paths) = Paths::create(alloc) else {

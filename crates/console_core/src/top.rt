@@ -12,13 +12,10 @@ use crate::opening::mount_all;
 use crate::script::{Pending, ReadEnd, run_rest, run_script};
 use crate::status::Status;
 use command_line::{Request, request_of};
-use console_session::{Session, StepEnd};
+use console_session::{Session, StepEnd, USERS};
 use mem_model::{PlainStore, Store, StoreStart};
 use outside_io::{Folder, Sink, Source};
 use std::alloc::Global;
-
-// How many users the cache has.
-const USERS: u32 = 768;
 
 // How many folders a command line names at most.
 const MOST_FOLDERS: usize = 8;
@@ -86,7 +83,7 @@ fn run_folders<F: Folder, S: Source, O: Sink>(
     requires few { vec_len folders ≤ 65536 }
     ensures usage { usage_of result ≡ None }
     ensures too_small { (result ≡ Status.TooSmall) ↔ AsksTooMuch request }
-    ensures ends { Ends (map F.files folders.items) request 0
+    ensures ends { Ends F.files F.folder_calls folders.items request 0
         (outside_of S.Source O.Sink script.old out.old) (outside_of S.Source O.Sink script.new out.new) result }
     ensures counts { NoneFell (outside_of S.Source O.Sink script.old out.old) (outside_of S.Source O.Sink script.new out.new) }
     ensures cause { HasOwnCause
@@ -129,7 +126,7 @@ fn run<F: Folder, S: Source, O: Sink>(
 ) -> Status<F>
     requires one_each { vec_len folders ≡ length words.now }
     requires few { length words.now < 2 ^ 32 }
-    ensures { HasOutcome 0 (map string_bytes words.now) F.files F.folder_faults folders.items
+    ensures { HasOutcome 0 (map string_bytes words.now) F.files F.folder_faults F.folder_calls folders.items
         (outside_of S.Source O.Sink script.old out.old) (outside_of S.Source O.Sink script.new out.new) result }
 {
     let request = match request_of(words, MOST_FOLDERS) {
@@ -169,7 +166,7 @@ pub fn quake_main<S: Source, O: Sink>(
 ) -> Status
     requires one_each { vec_len folders ≡ length words.now }
     requires few { length words.now < 2 ^ 32 }
-    ensures outcome { HasOutcome 0 (map string_bytes words.now) files folder_faults folders.items
+    ensures outcome { HasOutcome 0 (map string_bytes words.now) files folder_faults folder_calls folders.items
         (outside_of S.Source O.Sink script.old out.old) (outside_of S.Source O.Sink script.new out.new) result }
     ensures too_long { IfSome (S.rest script.old) (λ before. IfSome (S.rest script.new) (λ after.
         (result ≡ Status.ScriptTooLong) ↔ (1048576 < length before - length after))) }
@@ -177,7 +174,7 @@ pub fn quake_main<S: Source, O: Sink>(
         → IsSomeAnd (S.rest script.old) (λ bytes. length bytes ≤ 1048576)
         → (Rose (S.source_faults script.old) (S.source_faults script.new) → ⊥)
         → (Rose (O.sink_faults out.old) (O.sink_faults out.new) → ⊥)
-        → IsComplete (all_some (drop request.first (map files folders.items))) result }
+        → IsComplete (all_some (map files (drop request.first folders.items))) result }
 {
     run(alloc, words, folders, script, out)
 }

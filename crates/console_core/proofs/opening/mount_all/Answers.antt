@@ -24,7 +24,7 @@ returns-in-Err-clause-opened g c =
     let faults = g.F.Folder.folder_faults in
     let calls = g.F.Folder.folder_calls in
     let all : c.loop-folder.yielded ++ c.in-Some.folder ∷ c.next.new.self.rest.items ≡ c.args.folders.items = ap (λ l. c.loop-folder.yielded ++ l) (sym c.in-Some.ensures.steps.0) ∙ c.loop-folder.invariant.all in
-    subst (λ (folders : List g.row.F.Denot). IsOpened c.args.first files faults folders (Err c.unopened.result)) all
+    subst (λ (folders : List g.row.F.Denot). IsOpened c.args.first files faults calls folders (Err c.unopened.result)) all
     (opens_no_more files faults calls c.loop-folder.yielded c.in-Some.folder c.loop-folder.paths c.mount.new.self c.loop-folder.invariant.opened c.next.new.self.rest.items c.in-Err.error c.args.first c.unopened.result
     c.in-Err.ensures.mounted c.in-Err.ensures.error c.in-Err.ensures.kept c.unopened.ensures)
 

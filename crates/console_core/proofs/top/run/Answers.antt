@@ -18,14 +18,13 @@ returns-in-Err g c = record {
 
 pub returns : goal.returns
 returns g c =
-    let told = ap (λ (l : List g.row.F.Denot). map g.F.Folder.files l) c.from_word-folders.ensures ∙ sym (drop-map g.F.Folder.files c.in-Ok.request.first c.args.folders.items) in
     let all : c.in-Ok.request.first + c.in-Ok.request.folders ≡ length c.args.folders.items = omega (arith, c.in-Ok.ensures.folders, c.requires.one_each) in
     record {
       asked = Ok c.in-Ok.request;
       is = (c.in-Ok.ensures.asked c.in-Ok.request).0 refl;
       usage = c.run_folders.ensures.usage;
       too_small = c.run_folders.ensures.too_small;
-      ends = rw told at c.run_folders.ensures.ends;
+      ends = rw c.from_word-folders.ensures at c.run_folders.ensures.ends;
       counts = c.run_folders.ensures.counts;
       cause = c.run_folders.ensures.cause;
       handed_back = hands_back g.F.Folder.files g.F.Folder.folder_faults c.args.folders.items c.from_word-folders.result.items c.in-Ok.request c.from_word-folders.ensures c.run_folders.result all c.run_folders.ensures.handed_over;
