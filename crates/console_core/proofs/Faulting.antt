@@ -1,12 +1,11 @@
 -- How a run ends by a fault.
 use Prim.Native.Nat.{zero, suc}
-use Rattle.std.proofs.Common.{Bool, ◌≤◌, ◌≡◌, ◌+◌, ◌-◌, ◌∙◌, ℕ, List, [], ◌∷◌, length, map, drop, Option, Some, None, IfSome, IfErr, Result, Ok, Err, IsOkAnd, inr, refl, sym, subst, ap, arith}
+use Rattle.std.proofs.Common.{Bool, ◌≡◌, ◌+◌, ◌∙◌, ℕ, List, [], ◌∷◌, length, map, drop, Option, Some, None, IfSome, IfErr, Result, Ok, Err, IsOkAnd, inr, refl, sym, subst, ap, arith}
 use Rattle.std.specs.Prelude.{slice_get, slice_index, option_map}
 use Rattle.std.proofs.lemmas.List.{length-map, length-drop}
 use Rattle.std.proofs.lemmas.Option.{slice_get-map, get_or_from_slice_get}
 use Rattle.outside_io.specs.Causes.{Rose}
 use Rattle.outside_io.specs.Files.{File}
-use Rattle.search_paths.specs.Counts.{NoneFalls}
 use Rattle.outside_io.specs.declared.outside.Folder.{Ghosts as FolderGhosts}
 use Rattle.search_paths.specs.declared.answers.MountRow.{MountRow}
 use Rattle.search_paths.specs.Mounts.{Mount, mounted, BadPack as BadPackOf}

@@ -6,5 +6,4 @@ pub mod Completing
 pub mod Faulting
 pub mod PathOf
 pub mod Flushing
-pub mod Newlines
 pub mod Ending

@@ -129,7 +129,7 @@ module _ {F : Type 0} (files_of : F → Option (List File)) (faults_of calls_of 
         subst (λ l. NoneFalls l (counts_of faults_of after)) (sym old_is) (subst (λ l. NoneFalls (map faults_of held ++ faults_of folder ∷ []) l) (sym new_is) pushed);
     good = subst (HaveNoBadPack 0) (sym (map_push files_of held folder)) (good_push 0 (map files_of held) (files_of folder) opened.good
         (subst (λ n. IfSome (files_of folder) (λ files. IsOk (own_mounts n files))) (omega (arith, held_length, length-map held files_of)) (if_some (files_of folder) (λ files is.
-            ok_mounted (own_mounts (length before.folders) files) (at_some (λ all. IsMounted (own_mounts (length before.folders) all) (told_mounts files_of before) (told_mounts files_of after) (Ok tt)) (files_of folder) files is given)))));
+        ok_mounted (own_mounts (length before.folders) files) (at_some (λ all. IsMounted (own_mounts (length before.folders) all) (told_mounts files_of before) (told_mounts files_of after) (Ok tt)) (files_of folder) files is given)))));
     mounts = if_some (all_some (map files_of (held ++ folder ∷ []))) (λ told is.
         let parts = parts_of (map files_of held) (files_of folder ∷ []) told (ap all_some (sym (map_push files_of held folder)) ∙ is) in
         let head = head_of (files_of folder) [] parts.rest parts.back in
@@ -173,8 +173,8 @@ module _ {F : Type 0} (files_of : F → Option (List File)) (faults_of calls_of 
   good_before rest number last =
       let here : number ≡ length (map files_of held) = omega (arith, last, held_length, length-map held files_of) in
       let front : take number (map files_of (held ++ folder ∷ rest)) ≡ map files_of held =
-          ap (take number) (map-append files_of held (folder ∷ rest)) ∙ ap (λ n. take n (map files_of held ++ files_of folder ∷ map files_of rest)) here
-          ∙ take-append_seam (map files_of held) (files_of folder ∷ map files_of rest) in
+      ap (take number) (map-append files_of held (folder ∷ rest)) ∙ ap (λ n. take n (map files_of held ++ files_of folder ∷ map files_of rest)) here
+      ∙ take-append_seam (map files_of held) (files_of folder ∷ map files_of rest) in
       subst (HaveNoBadPack 0) (sym front) opened.good
 
   -- the next folder failed

@@ -1,9 +1,8 @@
 -- Lines of what was taken so far, and their run.
 use Prim.Native.Nat.{zero, suc}
-use Rattle.std.proofs.Common.{inl, inr, Some, None, option_map, ◌≡◌, ◌≢◌, ℕ, ◌+◌, ◌<◌, ◌≤◌, List, [], ◌∷◌, ◌++◌, length, get_or, take, Bool, true, false, Option, Result, Ok, Err, refl, sym, ◌∙◌, ap, subst, append_assoc, ◌==◌, drop}
-use Rattle.std.proofs.lemmas.List.{append-nil, take_more, take-append-drop, take_all}
+use Rattle.std.proofs.Common.{inl, inr, Some, None, option_map, ◌≡◌, ◌≢◌, ℕ, ◌≤◌, List, [], ◌∷◌, ◌++◌, length, take, Bool, true, false, Option, Result, Ok, Err, refl, sym, ◌∙◌, ap, subst, append_assoc, ◌==◌}
+use Rattle.std.proofs.lemmas.List.{append-nil, take_all}
 use Rattle.std.proofs.lemmas.Bool.{eq-eqb, ne_eqb}
-use Rattle.std.proofs.lemmas.Bool.Decides.{eqb_tells}
 use Rattle.outside_io.specs.Streams.{Adds, Took}
 use Rattle.outside_io.proofs.Puts.{adds_none, adds_both}
 use Rattle.console_session.specs.States.{State, Reply, CutsOff, StillPut}

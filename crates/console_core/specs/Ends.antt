@@ -1,5 +1,7 @@
 -- How a run ends.
-use Rattle.std.specs.Prelude.{◌≡◌, ◌↔◌, ◌<◌, ◌≤◌, ◌+◌, ◌*◌, ◌⊎◌, ◌++◌, ◌∷◌, ℕ, List, [], length, take, drop, map, slice_get, slice_index, ⊤, Bool, true, false, ◌&&◌, if◌then◌else◌, Option, Some, None, Result, Ok, Err, option_map, IfSome, IfOk, IsOk, IsOkAnd, IsErr, codes, decimal}
+use Rattle.std.specs.Prelude.{◌≡◌, ◌↔◌, ◌<◌, ◌≤◌, ◌+◌, ◌*◌, ◌⊎◌, ◌++◌, ◌∷◌, ℕ, List, [], length, take, drop, map, slice_get}
+use Rattle.std.specs.Prelude.{slice_index, ⊤, Bool, true, false, ◌&&◌, if◌then◌else◌, Option, Some, None, Result, Ok, Err}
+use Rattle.std.specs.Prelude.{option_map, IfSome, IfOk, IsOk, IsOkAnd, IsErr, codes, decimal}
 use Rattle.outside_io.specs.Causes.{Rose}
 use Rattle.outside_io.specs.Files.{File}
 use Rattle.outside_io.specs.Streams.{Adds, Took}
@@ -27,7 +29,8 @@ use Rattle.console_session.specs.declared.ends.Fault.TheVariants as fault
 use Rattle.console_session.specs.declared.ends.StepEnd.{StepEnd}
 use Rattle.console_session.specs.declared.ends.StepEnd.TheVariants as step
 use Rattle.console_core.specs.declared.status.Status.{Status}
-use Rattle.console_core.specs.declared.status.Status.TheVariants.{Done, Usage, OutOfMemory, TooSmall, BadPack, ScriptFault, FolderFault, WriteFault, ScriptTooLong}
+use Rattle.console_core.specs.declared.status.Status.TheVariants.{Done, Usage, OutOfMemory, TooSmall, BadPack, ScriptFault}
+use Rattle.console_core.specs.declared.status.Status.TheVariants.{FolderFault, WriteFault, ScriptTooLong}
 
 abbrev pub code_of : {F : Type 0} → Status F → ℕ
 code_of Done = 0
@@ -48,7 +51,8 @@ fault_text DirOutside = codes "directory outside"
 
 -- the folder's number among those that were mounted, and the pack's
 abbrev pub bad_pack_text : (folder pack : ℕ) → PackFault → List ℕ
-bad_pack_text folder pack fault = joined (codes "bad pack " ∷ decimal folder ∷ codes " " ∷ decimal pack ∷ codes ": " ∷ fault_text fault ∷ [])
+bad_pack_text folder pack fault =
+    joined (codes "bad pack " ∷ decimal folder ∷ codes " " ∷ decimal pack ∷ codes ": " ∷ fault_text fault ∷ [])
 
 -- the text of a status without numbers
 abbrev pub plain_text : {F : Type 0} → Status F → List ℕ
@@ -72,8 +76,8 @@ may_have_put TooSmall = false
 may_have_put (BadPack folder pack fault) = false
 may_have_put status = true
 
--- The status that is told of a run, where `lost` says that the sink lost some of what was put: that is a fault of a put, however
--- the run ended.
+-- The status that is told of a run, where `lost` says that the sink lost some of what was put: that is a fault of a put,
+-- however the run ended.
 abbrev pub status_told : {F : Type 0} → Status F → (lost : Bool) → Status F
 status_told status lost = if lost && may_have_put status then WriteFault else status
 
@@ -124,7 +128,8 @@ pub record LinesWereRun (first : State) (bytes : List ℕ) (start now : Option (
   pub lines : LinesWerePut first bytes start mid
   pub more : StillPut mid now
 
--- A line that ended in the last piece that was taken ended the run: the whole lines of what was taken earlier were run before.
+-- A line that ended in the last piece that was taken ended the run: the whole lines of what was taken earlier were run
+-- before.
 pub record IsInLastPiece (first : State) (taken : List ℕ) (start now : Option (List ℕ)) : Type 0 where
   pub earlier : List ℕ
   pub piece : List ℕ
@@ -132,15 +137,15 @@ pub record IsInLastPiece (first : State) (taken : List ℕ) (start now : Option 
   pub short : length piece ≤ most_read
   pub ran : LinesWereRun first earlier start now
 
--- Where a run ended: in a whole line, which `ends` says of the replies of the lines that were taken, and then it is in the last
--- piece; or behind all of the whole lines, with the script taken to its end.
+-- Where a run ended: in a whole line, which `ends` says of the replies of the lines that were taken, and then it is in the
+-- last piece; or behind all of the whole lines, with the script taken to its end.
 abbrev pub EndsWithin : Option State → (taken : List ℕ) → (before now : Outside) → (ends : Ran → Type 0) → Type 0
 EndsWithin first taken before now ends =
     (IsAtEnd now × IfSome first (λ s. LinesWereRun s taken before.got now.got))
     ⊎ IfSome first (λ s. ends (run_lines s (lines_of taken).whole) × IsInLastPiece s taken before.got now.got)
 
--- The replies of the run over the whole script were put, up to `quit` where that was executed. What was taken holds the line in
--- whose frame that was, or is the whole script.
+-- The replies of the run over the whole script were put, up to `quit` where that was executed. What was taken holds the line
+-- in whose frame that was, or is the whole script.
 pub record IsWhole (first : Option State) (before now : Outside) : Type 0 where
   pub taken : List ℕ
   pub took : Took taken before.rest now.rest
@@ -148,8 +153,8 @@ pub record IsWhole (first : Option State) (before now : Outside) : Type 0 where
   pub put : IfSome first (λ s. IfSome before.rest (λ script. Adds (texts (run s script).replies) before.got now.got))
   pub all : EndsWithin first taken before now (λ ran. quit_at ran.end ≡ Some true)
 
--- A fault ended the run over the whole script in one of its replies. What was taken holds the line of that reply, or is the whole
--- script.
+-- A fault ended the run over the whole script in one of its replies. What was taken holds the line of that reply, or is the
+-- whole script.
 pub record IsCutAt (fault : Fault) (first : Option State) (before now : Outside) : Type 0 where
   pub taken : List ℕ
   pub took : Took taken before.rest now.rest
@@ -176,8 +181,8 @@ abbrev pub OnPath : Option (List (List File)) → (Option PathSeen → Type 0) �
 OnPath None run = run None
 OnPath (Some folders) run = (mounts : List Mount) × (mounted folders ≡ Ok mounts) × run (Some (path_on folders mounts))
 
--- What a run from this state on took of the script and put, for each status that it may have, where the first folder's word has
--- this number. Where not all mounts are told, nothing is said of what was put.
+-- What a run from this state on took of the script and put, for each status that it may have, where the first folder's word
+-- has this number. Where not all mounts are told, nothing is said of what was put.
 abbrev pub RunEnds : {F : Type 0} → Option State → (word : ℕ) → (before now : Outside) → Status F → Type 0
 RunEnds first word before now Done = IsWhole first before now
 RunEnds first word before now OutOfMemory = IsCutAt fault.Memory first before now
@@ -194,15 +199,16 @@ HaveNoBadPack number [] = ⊤
 HaveNoBadPack number (told ∷ more) =
     IfSome told (λ files. IsOk (own_mounts number files)) × HaveNoBadPack (number + 1) more
 
--- The first bad pack of the folders: where its folder tells its files, it is the first of that one, and those before have none.
+-- The first bad pack of the folders: where its folder tells its files, it is the first of that one, and those before have
+-- none.
 pub record IsFirstBadPack (told : List (Option (List File))) (bad : BadPackOf) : Type 0 where
   pub files : Option (List File)
   pub is : slice_get told bad.folder ≡ Some files
   pub before : HaveNoBadPack 0 (take bad.folder told)
   pub own : IfSome files (λ all. own_mounts bad.folder all ≡ Err bad)
 
--- How the mounting of these folders failed at the one of this number, which is this one now: those before it have no bad pack,
--- and of its own packs none is bad before the one at which it failed, which its calls tell.
+-- How the mounting of these folders failed at the one of this number, which is this one now: those before it have no bad
+-- pack, and of its own packs none is bad before the one at which it failed, which its calls tell.
 pub record FailsAt {F : Type 0} (files_of : F → Option (List File)) (calls_of : F → ℕ) (folders : List F) (number : ℕ)
     (folder : F) : Type 0 where
   pub before : F
@@ -226,7 +232,7 @@ abbrev pub Ends : {F : Type 0} → (F → Option (List File)) → (F → ℕ) �
 Ends files_of calls_of folders request event_room before now status =
     (OpeningEnds request.first files_of calls_of folders status × IsUntouched before now)
     ⊎ (HaveNoBadPack 0 (map files_of folders) × OnPath (all_some (map files_of folders))
-        (λ path. RunEnds (option_map (first_state request event_room) path) request.first before now status))
+    (λ path. RunEnds (option_map (first_state request event_room) path) request.first before now status))
 
 -- What was taken and put by words, which may be faulty. The folders that are asked for are those of the last words.
 abbrev pub EndsFor : {F : Type 0} → Result Request ℕ → (event_room : ℕ) → (F → Option (List File)) → (F → ℕ) → List F
@@ -239,8 +245,8 @@ EndsFor (Err word) event_room files_of calls_of folders before now status = IsUn
 abbrev pub IsUncalled : (before now : Outside) → Type 0
 IsUncalled before now = (now.script_faults ≡ before.script_faults) × (now.sink_faults ≡ before.sink_faults)
 
--- A fault of the script or the sink came from that one: its count rose over the run. A faulty command line, one that asks for too
--- much, and a bad pack call neither.
+-- A fault of the script or the sink came from that one: its count rose over the run. A faulty command line, one that asks
+-- for too much, and a bad pack call neither.
 abbrev pub HasOwnCause : {F : Type 0} → (before now : Outside) → Status F → Type 0
 HasOwnCause before now (Usage word) = IsUncalled before now
 HasOwnCause before now TooSmall = IsUncalled before now
@@ -257,7 +263,8 @@ pub record IsFailedFolder {F : Type 0} (files_of : F → Option (List File)) (fa
   pub told : files_of folder ≡ files_of before
   pub rose : Rose (faults_of before) (faults_of folder)
 
--- The folder that is handed back is that of a word that was asked for. A bad pack is in one of the folders that were asked for.
+-- The folder that is handed back is that of a word that was asked for. A bad pack is in one of the folders that were asked
+-- for.
 abbrev pub HandsBack : {F : Type 0} → (F → Option (List File)) → (F → ℕ) → List F → Result Request ℕ → Status F → Type 0
 HandsBack files_of faults_of folders asked (BadPack folder pack fault) =
     IfOk asked (λ request. folder < request.folders) × (pack < 32)
@@ -265,8 +272,8 @@ HandsBack files_of faults_of folders asked (FolderFault word folder) =
     IfOk asked (λ request. request.first ≤ word) × IsFailedFolder files_of faults_of folders word folder
 HandsBack files_of faults_of folders asked status = ⊤
 
--- The status of a run that ended so. The folder of a folder's fault has this number among those that are held; the word of the
--- first has the number `first`.
+-- The status of a run that ended so. The folder of a folder's fault has this number among those that are held; the word of
+-- the first has the number `first`.
 abbrev pub IsStatusOf : {F : Type 0} → StepEnd → (first : ℕ) → (F → Option (List File)) → (F → ℕ) → List (Option (List File))
     → (counts : List ℕ) → Status F → Type 0
 IsStatusOf step.Went first files_of faults_of told counts status = status ≡ Done
@@ -282,8 +289,8 @@ abbrev pub IsAmong : ℕ → StepEnd → Type 0
 IsAmong folders (step.FolderFault folder) = folder < folders
 IsAmong folders end = ⊤
 
--- The folder that a folder's fault hands back is that of a word from `first` on; it tells what it told, and its count rose. A bad
--- pack is in one of the folders.
+-- The folder that a folder's fault hands back is that of a word from `first` on; it tells what it told, and its count rose.
+-- A bad pack is in one of the folders.
 abbrev pub HandsOver : {F : Type 0} → (first : ℕ) → (F → Option (List File)) → (F → ℕ) → List (Option (List File))
     → (counts : List ℕ) → Status F → Type 0
 HandsOver first files_of faults told counts (BadPack folder pack fault) = (folder < length told) × (pack < 32)
@@ -292,8 +299,8 @@ HandsOver first files_of faults told counts (FolderFault word folder) =
     × Rose (slice_index counts number) (faults folder)
 HandsOver first files_of faults told counts status = ⊤
 
--- The path holds the folders: each tells what it told, and no count of faults fell. Those that tell have no bad pack, and where all
--- do, the mounts are theirs, in front of each other.
+-- The path holds the folders: each tells what it told, and no count of faults fell. Those that tell have no bad pack, and
+-- where all do, the mounts are theirs, in front of each other.
 pub record IsPathOf {F : Type 0} (files_of : F → Option (List File)) (faults_of : F → ℕ) (folders : List F)
     (path : PathState F) : Type 0 where
   pub told : told_of files_of path ≡ map files_of folders
@@ -317,8 +324,8 @@ IsUnopened {F} (error.FolderFault number) first path status =
     (folder : F) × (status ≡ FolderFault (word_of first number) folder) × (slice_get path.folders number ≡ Some folder)
 IsUnopened error.OutOfMemory first path status = status ≡ OutOfMemory
 
--- What the words ask for, which is one thing, or which of them breaks the rule; and what came of it: what was taken and put, whose
--- fault it was, and what was handed back.
+-- What the words ask for, which is one thing, or which of them breaks the rule; and what came of it: what was taken and put,
+-- whose fault it was, and what was handed back.
 pub record HasOutcome {F : Type 0} (event_room : ℕ) (words : List (List ℕ)) (files_of : F → Option (List File))
     (faults_of calls_of : F → ℕ) (folders : List F) (before now : Outside) (status : Status F) : Type 0 where
   pub asked : Result Request ℕ
@@ -330,8 +337,8 @@ pub record HasOutcome {F : Type 0} (event_room : ℕ) (words : List (List ℕ)) 
   pub cause : HasOwnCause before now status
   pub handed_back : HandsBack files_of faults_of folders asked status
 
--- An answer to lawful words and a short script where no count of the script or the sink rises. With a bad pack the folders that
--- were asked for, where they tell their files, are no path.
+-- An answer to lawful words and a short script where no count of the script or the sink rises. With a bad pack the folders
+-- that were asked for, where they tell their files, are no path.
 abbrev pub IsComplete : {F : Type 0} → Option (List (List File)) → Status F → Type 0
 IsComplete told Done = ⊤
 IsComplete told OutOfMemory = ⊤

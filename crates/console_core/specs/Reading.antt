@@ -29,8 +29,8 @@ pub record RunsIn {O : Type 0} (frugal : Bool) (sink : SinkGhosts O) (run : Ran)
   pub path : new.state.path ≡ old.state.path
   pub causes : HasCauses frugal old.faults new.faults (sink.sink_faults before) (sink.sink_faults now) (told_end end)
 
--- Where a line ended the run, it ended in the last piece that was taken: the whole lines of what was taken earlier had been run
--- before, and did not end it.
+-- Where a line ended the run, it ended in the last piece that was taken: the whole lines of what was taken earlier had been
+-- run before, and did not end it.
 pub record RanEarlier (first : State) (taken : List ℕ) (start now : Option (List ℕ)) : Type 0 where
   pub earlier : List ℕ
   pub piece : List ℕ
@@ -42,7 +42,8 @@ pub record RanEarlier (first : State) (taken : List ℕ) (start now : Option (Li
   pub more : StillPut mid now
 
 -- the whole lines of what was taken were run; of a script that is too long, those of as many bytes as it may have
-abbrev pub RunsTaken : (first : State) → (taken : List ℕ) → ReadEnd → (after : State) → (start now : Option (List ℕ)) → Type 0
+abbrev pub RunsTaken : (first : State) → (taken : List ℕ) → ReadEnd → (after : State) → (start now : Option (List ℕ))
+    → Type 0
 RunsTaken first taken AtEnd after start now = Runs (run_lines first (lines_of taken).whole) (Ok false) after start now
 RunsTaken first taken (Ended end) after start now =
     Runs (run_lines first (lines_of taken).whole) (told_end end) after start now × RanEarlier first taken start now
@@ -50,7 +51,8 @@ RunsTaken first taken Failed after start now = Runs (run_lines first (lines_of t
 RunsTaken first taken TooLong after start now =
     Runs (run_lines first (lines_of (take limit taken)).whole) (Ok false) after start now
 
--- Within the limit all that was taken may be run; a byte past it was taken of a script that is too long. At the end nothing is left.
+-- Within the limit all that was taken may be run; a byte past it was taken of a script that is too long. At the end nothing
+-- is left.
 abbrev pub EndsAt : ReadEnd → (taken : List ℕ) → Outside → Type 0
 EndsAt AtEnd taken now = (length taken ≤ limit) × IsAtEnd now
 EndsAt (Ended end) taken now = (length taken ≤ limit) × (end ≡ Went → ⊥)
@@ -78,7 +80,8 @@ ReadCause frugal faults_before faults_now before now Failed = Rose before.script
 ReadCause frugal faults_before faults_now before now TooLong = ⊤
 
 -- Each fault has its cause, no count of faults falls, and no folder comes or goes.
-pub record HasReadCauses (frugal : Bool) (faults_before faults_now : List ℕ) (before now : Outside) (end : ReadEnd) : Type 0 where
+pub record HasReadCauses (frugal : Bool) (faults_before faults_now : List ℕ) (before now : Outside)
+    (end : ReadEnd) : Type 0 where
   pub none_falls : NoneFalls faults_before faults_now
   pub folders : length faults_now ≡ length faults_before
   pub counts : NoneFell before now

@@ -9,8 +9,8 @@ ghost use Rattle.console_core.specs.Reading.{RunsIn, HasRead, ReadsPast, HasRead
 
 use arrayvec::ArrayVec;
 use console_session::{Session, StepEnd};
-use memchr::memchr;
 use mem_model::Store;
+use memchr::memchr;
 use outside_io::{Folder, Sink, Source};
 
 // How many bytes are read at a time at most.

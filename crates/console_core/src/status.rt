@@ -1,6 +1,7 @@
 // How a run ends.
 ghost use Rattle.std.specs.Prelude.{◌≡◌, ◌≤◌, ◌++◌, length};
-ghost use Rattle.console_core.specs.Ends.{code_of, status_text, plain_text, fault_text, bad_pack_text, may_have_put, status_told};
+ghost use Rattle.console_core.specs.Ends.{code_of, status_text, plain_text, fault_text, bad_pack_text, may_have_put};
+ghost use Rattle.console_core.specs.Ends.{status_told};
 
 use arrayvec::ArrayString;
 use itoa::Buffer;
@@ -20,8 +21,8 @@ pub enum Status<F: Folder = Box<dyn Folder>> {
     OutOfMemory,
     /// The heap does not hold the zone.
     TooSmall,
-    /// A pack of a folder is no pack that is taken: the first such pack, in the order of mounting. Folders are numbered from 0
-    /// among those that were asked for.
+    /// A pack of a folder is no pack that is taken: the first such pack, in the order of mounting. Folders are numbered from
+    /// 0 among those that were asked for.
     BadPack {
         folder: u32,
         pack: u32,
@@ -50,8 +51,8 @@ fn may_have_put<F: Folder>(status: &Status<F>) -> bool
     )
 }
 
-/// The status that is told of a run. Where `lost` says that the sink lost some of what was put, as at its last flush, that is
-/// `WriteFault` in place of each status after which a reply may have been put; a folder is dropped then.
+/// The status that is told of a run. Where `lost` says that the sink lost some of what was put, as at its last flush, that
+/// is `WriteFault` in place of each status after which a reply may have been put; a folder is dropped then.
 pub fn status_told<F: Folder>(status: Status<F>, lost: bool) -> Status<F>
     ensures { result ≡ status_told status lost }
 {

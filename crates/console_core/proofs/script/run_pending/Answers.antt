@@ -1,8 +1,7 @@
-use Rattle.std.proofs.Common.{◌++◌, ap, sym, ◌∙◌, subst}
+use Rattle.std.proofs.Common.{◌++◌, ap, ◌∙◌, subst}
 use Rattle.console_session.specs.Frames.{Ran, line, Runs}
 use Rattle.console_session.specs.Sessions.{told_end}
 use Rattle.console_core.proofs.Shortening.{line_short}
-use Rattle.console_core.specs.Reading.{RunsIn}
 use Rattle.console_core.proofs.script.run_pending.Goals as goal
 
 pub returns-clause-runs : goal.returns-clause-runs

@@ -1,8 +1,8 @@
-use Rattle.std.proofs.Common.{rules, subst, Ok, false}
-use Rattle.console_session.specs.Frames.{finish, Runs}
+use Rattle.std.proofs.Common.{rules}
+use Rattle.console_session.specs.Frames.{finish}
 use Rattle.console_session.specs.Sessions.{told_end}
-use Rattle.console_core.specs.Runs.{last_line, rest_run}
-use Rattle.console_core.proofs.Scripts.{both_run, ended_run}
+use Rattle.console_core.specs.Runs.{last_line}
+use Rattle.console_core.proofs.Scripts.{both_run}
 use Rattle.console_core.proofs.script.run_rest.Goals as goal
 
 pub returns-in-Went : goal.returns-in-Went

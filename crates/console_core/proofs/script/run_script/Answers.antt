@@ -87,18 +87,21 @@ returns-in_default-feed-clause-read g c =
       took = took_more inv.taken piece _ _ _ inv.took (took_piece c.read-in-read.new.into (drop c.min-most.result c.read.piece) c.in-Ok.count _ _ c.in-Ok.ensures.within c.in-Ok.ensures.taken);
       ends = (piece_fits inv.taken c.read-in-read.new.into (drop c.min-most.result c.read.piece) c.in-Ok.count c.read.left inv.size fits, c.in_default-feed.not-Went);
       keeps = tt;
-      run = (piece_runs first c.read.session.state c.feed.new.session.state inv.taken piece c.read.pending.items (told_end c.feed.result) _ _ _ inv.told inv.rest ran, record {
-        earlier = inv.taken;
-        piece = piece;
-        is = refl;
-        short = read_short c.read-in-read.new.into (drop c.min-most.result c.read.piece) c.read.piece c.in-Ok.count c.min-most.result c.read.left c.in-Ok.ensures.within c.read-in-read.auto.into c.min-most.ensures;
-        after = c.read.session.state;
-        mid = g.O.Sink.got c.read.out;
-        run = inv.told;
-        more =
-            let more_ran = run_lines c.read.session.state (lines_of (c.read.pending.items ++ piece)).whole in
-            goes_still more_ran.replies more_ran.end (told_end c.feed.result) c.feed.new.session.state _ _ ran;
-      });
+      run = (
+        piece_runs first c.read.session.state c.feed.new.session.state inv.taken piece c.read.pending.items (told_end c.feed.result) _ _ _ inv.told inv.rest ran,
+        record {
+          earlier = inv.taken;
+          piece = piece;
+          is = refl;
+          short = read_short c.read-in-read.new.into (drop c.min-most.result c.read.piece) c.read.piece c.in-Ok.count c.min-most.result c.read.left c.in-Ok.ensures.within c.read-in-read.auto.into c.min-most.ensures;
+          after = c.read.session.state;
+          mid = g.O.Sink.got c.read.out;
+          run = inv.told;
+          more =
+              let more_ran = run_lines c.read.session.state (lines_of (c.read.pending.items ++ piece)).whole in
+              goes_still more_ran.replies more_ran.end (told_end c.feed.result) c.feed.new.session.state _ _ ran;
+        },
+      );
     }
 
 pub read-preserved : goal.read-preserved

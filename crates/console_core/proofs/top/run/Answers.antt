@@ -1,6 +1,4 @@
-use Rattle.std.proofs.Common.{◌≡◌, ◌+◌, Ok, Err, refl, ◌∙◌, List, length, ap, sym, arith}
-use Rattle.std.specs.Prelude.{map}
-use Rattle.std.proofs.lemmas.List.{drop-map}
+use Rattle.std.proofs.Common.{◌≡◌, ◌+◌, Ok, Err, refl, length, arith}
 use Rattle.console_core.proofs.Faulting.{hands_back}
 use Rattle.console_core.proofs.top.run.Goals as goal
 
