@@ -99,6 +99,10 @@ fault_of (Err word) = Some word
 abbrev pub AsksTooMuch : Request → Type 0
 AsksTooMuch request = 1024 * request.heap < hunk_need (1024 * request.zone)
 
+-- how many events a plain store keeps
+abbrev pub no_events : ℕ
+no_events = 0
+
 -- the state at the start, with a heap and a zone of so many KB, and room for so many events
 abbrev pub first_state : Request → (event_room : ℕ) → PathSeen → State
 first_state request event_room path =

@@ -5,7 +5,7 @@ ghost use Rattle.outside_io.specs.Causes.{Rose};
 ghost use Rattle.search_paths.specs.Path.{all_some};
 ghost use Rattle.console_core.specs.Outside.{outside_of, NoneFell};
 ghost use Rattle.console_core.specs.Ends.{AsksTooMuch, usage_of, told_state, Ends, RunEnds, IsStatusOf, IsAmong};
-ghost use Rattle.console_core.specs.Ends.{HasOwnCause, HandsOver, HasOutcome, IsComplete};
+ghost use Rattle.console_core.specs.Ends.{HasOwnCause, HandsOver, HasOutcome, IsComplete, no_events};
 ghost use Rattle.command_line.specs.CommandLine.{IsAsked};
 
 use crate::opening::mount_all;
@@ -84,7 +84,7 @@ fn run_folders<F: Folder, S: Source, O: Sink>(
     requires few { vec_len folders ≤ 65536 }
     ensures usage { usage_of result ≡ None }
     ensures too_small { (result ≡ Status.TooSmall) ↔ AsksTooMuch request }
-    ensures ends { Ends F.files F.folder_calls folders.items request 0
+    ensures ends { Ends F.files F.folder_calls folders.items request no_events
         (outside_of S.Source O.Sink script.old out.old) (outside_of S.Source O.Sink script.new out.new) result }
     ensures counts { NoneFell
         (outside_of S.Source O.Sink script.old out.old) (outside_of S.Source O.Sink script.new out.new) }
@@ -128,7 +128,7 @@ fn run<F: Folder, S: Source, O: Sink>(
 ) -> Status<F>
     requires one_each { vec_len folders ≡ length words.now }
     requires few { length words.now < 2 ^ 32 }
-    ensures { HasOutcome 0 (map string_bytes words.now) F.files F.folder_faults F.folder_calls folders.items
+    ensures { HasOutcome no_events (map string_bytes words.now) F.files F.folder_faults F.folder_calls folders.items
         (outside_of S.Source O.Sink script.old out.old) (outside_of S.Source O.Sink script.new out.new) result }
 {
     let request = match request_of(words, MOST_FOLDERS) {
@@ -172,7 +172,7 @@ pub fn quake_main<S: Source, O: Sink>(
 ) -> Status
     requires one_each { vec_len folders ≡ length words.now }
     requires few { length words.now < 2 ^ 32 }
-    ensures outcome { HasOutcome 0 (map string_bytes words.now) files folder_faults folder_calls folders.items
+    ensures outcome { HasOutcome no_events (map string_bytes words.now) files folder_faults folder_calls folders.items
         (outside_of S.Source O.Sink script.old out.old) (outside_of S.Source O.Sink script.new out.new) result }
     ensures too_long { IfSome (S.rest script.old) (λ before. IfSome (S.rest script.new) (λ after.
         (result ≡ Status.ScriptTooLong) ↔ (1048576 < length before - length after))) }

@@ -1,7 +1,7 @@
 -- The calls of a load, by those of its search and of its reading.
 use Prim.Native.Nat.{zero, suc}
-use Rattle.std.proofs.Common.{◌≡◌, ◌<◌, ℕ, true, false, List, [], ◌∷◌, ◌++◌, length, take, Option, Some, None, IfSome, Result, Ok, Err, refl, sym, subst, arith}
-use Rattle.std.specs.Prelude.{slice_get, option_map, if◌then◌else◌, IfOk}
+use Rattle.std.proofs.Common.{◌≡◌, ◌<◌, ℕ, false, List, [], ◌∷◌, ◌++◌, length, take, Option, Some, None, IfSome, Result, Ok, refl, sym, arith}
+use Rattle.std.specs.Prelude.{slice_get, option_map, IfOk}
 use Rattle.std.proofs.lemmas.List.{append-nil}
 use Rattle.search_paths.specs.declared.answers.FileRef.{FileRef}
 use Rattle.search_paths.specs.declared.answers.FolderFault.{FolderFault}
@@ -14,8 +14,7 @@ use Rattle.mem_model.specs.declared.answers.RoomError.{RoomError}
 use Rattle.mem_model.specs.declared.answers.RoomError.TheVariants as room
 use Rattle.file_load.specs.declared.errors.LoadError.{LoadError}
 use Rattle.file_load.specs.declared.errors.LoadError.TheVariants as error
-use Rattle.file_load.specs.declared.errors.Stage.TheVariants as stage
-use Rattle.file_load.specs.Calls.{IsSearch, was_read, folder_at, folder_of, AsksFor}
+use Rattle.file_load.specs.Calls.{IsSearch, was_read, folder_at, AsksFor}
 use Rattle.file_load.specs.Files.{IsUnreadable}
 use Rattle.file_load.specs.Refusals.{refused}
 

@@ -1,5 +1,6 @@
 // A folder of the host.
-ghost use Rattle.std.specs.Prelude.{◌≡◌, ◌≢◌, ◌↔◌, ◌<◌, ◌≤◌, ◌+◌, ◌^◌, ◌++◌, ◌∷◌, ℕ, [], None, IsTrue, IsSome, IfOk, IfSome, OnOk, length, take, string_bytes, string_capacity};
+ghost use Rattle.std.specs.Prelude.{◌≡◌, ◌≢◌, ◌↔◌, ◌<◌, ◌≤◌, ◌+◌, ◌^◌, ◌++◌, ◌∷◌, ℕ, [], None, IsTrue, IsSome, IfOk};
+ghost use Rattle.std.specs.Prelude.{IfSome, OnOk, length, take, string_bytes, string_capacity};
 ghost use Rattle.std.specs.Io.KnownBytes.{Consumes};
 ghost use Rattle.quake_cli.specs.HostNames.{stays_inside, IsHostName};
 
@@ -28,8 +29,8 @@ struct OpenFile {
 /// of the folder: one that is empty, begins with a slash, or has a part `..`. A folder that isn't there is empty.
 /// A failed call of the host, a file that ends early, and a length of 2^62 bytes or more are faults.
 ///
-/// A file of which a part was read, as of a pack, is kept open, 32 at most: further reads come from the file that it was then,
-/// whatever stands at its name. A file that is read whole is opened for each read.
+/// A file of which a part was read, as of a pack, is kept open, 32 at most: further reads come from the file that it was
+/// then, whatever stands at its name. A file that is read whole is opened for each read.
 #[derive(Drop)]
 pub struct DirFolder {
     rt: HostRuntime,
@@ -234,9 +235,9 @@ fn length(rt: &HostRuntime, path: &str) -> io::Result<Option<u64>>
     }
 }
 
-// Opens the regular file at this path, and tells its length, which may be known from the call before. What is no regular file
-// isn't opened: to open a FIFO waits for its writer, and to open a device may act on it. The host can't be asked for both at
-// once, so what takes the file's place between the two calls is opened.
+// Opens the regular file at this path, and tells its length, which may be known from the call before. What is no regular
+// file isn't opened: to open a FIFO waits for its writer, and to open a device may act on it. The host can't be asked for
+// both at once, so what takes the file's place between the two calls is opened.
 fn open_file(rt: &HostRuntime, path: &str, known: Option<u64>) -> io::Result<(File, u64)> {
     let size = match known {
         Some(size) => Some(size),

@@ -50,8 +50,8 @@ const ROOM: usize = 8192;
 
 /// Standard output. It tells no bytes, and counts its faults: the puts that failed, and the flushes that the host failed.
 ///
-/// Pieces are held back, and are written together where there is no room for more and at a flush. After a failed write nothing
-/// is written any more, and the host has a front of what was put.
+/// Pieces are held back, and are written together where there is no room for more and at a flush. After a failed write
+/// nothing is written any more, and the host has a front of what was put.
 #[derive(Drop)]
 pub struct StdoutSink {
     output: Stdout,
@@ -144,7 +144,8 @@ impl Sink for StdoutSink {
 // Writes the whole piece. After an error a front of it was written.
 pub(crate) fn put_whole<W: Write>(to: &mut W, piece: &[u8]) -> io::Result<()>
     ensures whole { OnOk result (Appends (W.contents to.old) (W.contents to.new) piece.now) }
-    ensures front { OnErr result ((n : ℕ) × (n ≤ length piece.now) × Appends (W.contents to.old) (W.contents to.new) (take n piece.now)) }
+    ensures front { OnErr result ((n : ℕ) × (n ≤ length piece.now)
+        × Appends (W.contents to.old) (W.contents to.new) (take n piece.now)) }
 {
     let mut written = 0;
     'put: while written < piece.len() {

@@ -23,7 +23,8 @@ joined [] = []
 joined (part ∷ parts) = part ++ joined parts
 
 -- A text was put; or, after an error, a front of it, and the sink's count of faults rose.
-pub record PutsText {A O : Type 0} (sink : SinkGhosts O) (text : List ℕ) (before now : O) (result : Result A SinkFailed) : Type 0 where
+pub record PutsText {A O : Type 0} (sink : SinkGhosts O) (text : List ℕ) (before now : O)
+    (result : Result A SinkFailed) : Type 0 where
   pub whole : OnOk result (Adds text (sink.got before) (sink.got now))
   pub front : OnErr result (AddsFront text (sink.got before) (sink.got now))
   pub cause : HasCause (sink.sink_faults before) (sink.sink_faults now) result

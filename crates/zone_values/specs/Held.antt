@@ -17,8 +17,10 @@ NoneAmong places others = AllByRecursion (λ place. NoneIs place others) places
 -- Used blocks at none of the places keep their bytes, and are at none of the places that are held now.
 abbrev pub OthersStay : (old new : Memory) → (before now : List ℕ) → Type 0
 OthersStay old new before now =
-    (place : ℕ) (bytes : List ℕ) → NoneIs place before → zone_bytes old place ≡ Some bytes → NoneIs place now × (zone_bytes new place ≡ Some bytes)
+    (place : ℕ) (bytes : List ℕ) → NoneIs place before → zone_bytes old place ≡ Some bytes
+    → NoneIs place now × (zone_bytes new place ≡ Some bytes)
 
 -- The blocks at these places keep their bytes.
 abbrev pub KeepsAt : (old new : Memory) → List ℕ → Type 0
-KeepsAt old new places = AllByRecursion (λ place. (bytes : List ℕ) → zone_bytes old place ≡ Some bytes → zone_bytes new place ≡ Some bytes) places
+KeepsAt old new places =
+    AllByRecursion (λ place. (bytes : List ℕ) → zone_bytes old place ≡ Some bytes → zone_bytes new place ≡ Some bytes) places

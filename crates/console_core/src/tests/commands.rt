@@ -21,6 +21,7 @@ fn commands_are_answered(rt: HostRuntime) -> Result<(), Fail> {
         ("echo a; quit; echo b", "a \n"),
         ("wait;quit;echo a", ""),
         ("wait;quit;echo a\necho b\necho c", ""),
+        ("flush;FLUSH x\nflushx", "Unknown command \"flushx\"\n"),
         (
             "ECHO a\nFile a.txt\nEXEC b\nqUiT\necho b",
             "a \nfile a.txt 5 at 49184\ncouldn't exec b\n",
