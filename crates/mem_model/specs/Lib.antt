@@ -13,6 +13,7 @@ pub mod Gaps
 pub mod Turns
 pub mod Tables
 pub mod Keeps
+pub mod Images
 pub mod Rows
 pub mod Told
 pub mod Plain

@@ -4,6 +4,7 @@
 #![tactic(auto)]
 
 mod answers;
+mod builder;
 mod cache;
 mod cells;
 mod plain;
@@ -15,5 +16,6 @@ mod zone;
 pub use answers::{
     BadMark, BlockRow, CacheError, FreeError, Place, RoomError, StoreStart, ZoneError,
 };
+pub use builder::Builder;
 pub use plain::PlainStore;
 pub use store::Store;
