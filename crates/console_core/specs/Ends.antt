@@ -12,7 +12,7 @@ use Rattle.mem_model.specs.Places.{hunk_need}
 use Rattle.console_session.specs.States.{State, PathSeen, StillPut, started}
 use Rattle.console_session.specs.Frames.{Ran, texts, IsCutShort}
 use Rattle.console_core.specs.Runs.{quit_at, run_lines, lines_of, run}
-use Rattle.console_core.specs.Outside.{Outside, NoneFell, IsUntouched, IsAtEnd}
+use Rattle.console_core.specs.Outside.{Outside, NoneFell, IsUntouched, IsHandedOn, IsAtEnd}
 use Rattle.console_core.specs.Reading.{limit, most_read}
 use Rattle.pack_files.specs.declared.faults.PackFault.{PackFault}
 use Rattle.pack_files.specs.declared.faults.PackFault.TheVariants.{NotPack, TooMany, DirOutside}
@@ -328,8 +328,8 @@ IsUnopened {F} (error.FolderFault number) first path status =
     (folder : F) × (status ≡ FolderFault (word_of first number) folder) × (slice_get path.folders number ≡ Some folder)
 IsUnopened error.OutOfMemory first path status = status ≡ OutOfMemory
 
--- What the words ask for, which is one thing, or which of them breaks the rule; and what came of it: what was taken and put,
--- whose fault it was, and what was handed back.
+-- What the words ask for, which is one thing, or which of them breaks the rule; and what came of it: what was taken, put and
+-- handed on, whose fault it was, and what was handed back.
 pub record HasOutcome {F : Type 0} (event_room : ℕ) (words : List (List ℕ)) (files_of : F → Option (List File))
     (faults_of calls_of : F → ℕ) (folders : List F) (before now : Outside) (status : Status F) : Type 0 where
   pub asked : Result Request ℕ
@@ -337,6 +337,7 @@ pub record HasOutcome {F : Type 0} (event_room : ℕ) (words : List (List ℕ)) 
   pub usage : usage_of status ≡ fault_of asked
   pub too_small : IfOk asked (λ request. (status ≡ TooSmall) ↔ AsksTooMuch request)
   pub ends : EndsFor asked event_room files_of calls_of folders before now status
+  pub handed_on : IsHandedOn before now
   pub counts : NoneFell before now
   pub cause : HasOwnCause before now status
   pub handed_back : HandsBack files_of faults_of folders asked status

@@ -3,12 +3,14 @@ use Rattle.std.specs.Prelude.{◌≡◌, ◌≤◌, ℕ, List, [], Option, IfSom
 use Rattle.outside_io.specs.declared.outside.Sink.{Ghosts as SinkGhosts}
 use Rattle.outside_io.specs.declared.outside.Source.{Ghosts as SourceGhosts}
 
--- What is left of the script and what the sink got, where each tells it, and how many of their calls have failed.
+-- What is left of the script and what the sink got, where each tells it; how many of their calls have failed; and how many
+-- bytes the sink holds back of what it got.
 pub record Outside : Type 0 where
   pub rest : Option (List ℕ)
   pub got : Option (List ℕ)
   pub script_faults : ℕ
   pub sink_faults : ℕ
+  pub held_back : ℕ
 
 abbrev pub outside_of : {S O : Type 0} → SourceGhosts S → SinkGhosts O → S → O → Outside
 outside_of source sink script out = record {
@@ -16,6 +18,7 @@ outside_of source sink script out = record {
   got = sink.got out;
   script_faults = source.source_faults script;
   sink_faults = sink.sink_faults out;
+  held_back = sink.held_back out;
 }
 
 -- no count fell
@@ -27,6 +30,10 @@ pub record NoneFell (before now : Outside) : Type 0 where
 pub record IsUntouched (before now : Outside) : Type 0 where
   pub rest : now.rest ≡ before.rest
   pub put : now.got ≡ before.got
+
+-- Nothing is held back any more, where nothing was before.
+abbrev pub IsHandedOn : (before now : Outside) → Type 0
+IsHandedOn before now = before.held_back ≡ 0 → now.held_back ≡ 0
 
 -- the script was taken to its end
 abbrev pub IsAtEnd : Outside → Type 0

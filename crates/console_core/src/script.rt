@@ -4,7 +4,7 @@ ghost use Rattle.outside_io.specs.Causes.{Rose};
 ghost use Rattle.console_session.specs.Sessions.{is_end};
 ghost use Rattle.console_session.specs.Frames.{line};
 ghost use Rattle.console_core.specs.Runs.{run_lines, lines_of, last_line, rest_run, HasNoNewline, IsFirstLine};
-ghost use Rattle.console_core.specs.Outside.{outside_of};
+ghost use Rattle.console_core.specs.Outside.{outside_of, IsHandedOn};
 ghost use Rattle.console_core.specs.Reading.{RunsIn, HasRead, ReadsPast, HasReadCauses};
 
 use arrayvec::ArrayVec;
@@ -116,6 +116,7 @@ fn feed<M: Store, F: Folder, O: Sink>(
     ensures rest { result ≡ StepEnd.Went
         → pending.new.items ≡ take 8192 (lines_of (pending.old.items ++ piece.now)).rest }
     ensures ended { session.new.ended ≡ is_end result }
+    ensures handed_on { O.held_back out.new ≡ 0 }
 {
     let end = run_piece(session, pending, piece, out);
     out.flush();
@@ -136,7 +137,7 @@ fn read_past<S: Source>(script: &mut S) -> ReadEnd
     }
 }
 
-/// Reads a script, and runs its whole lines as they come.
+/// Reads a script, and runs its whole lines as they come. What they put is handed on before the next read.
 pub fn run_script<M: Store, F: Folder, S: Source, O: Sink>(
     session: &mut Session<M, F>,
     script: &mut S,
@@ -151,6 +152,8 @@ pub fn run_script<M: Store, F: Folder, S: Source, O: Sink>(
     ensures path { session.new.state.path ≡ session.old.state.path }
     ensures causes { HasReadCauses M.frugal session.old.faults session.new.faults
         (outside_of S.Source O.Sink script.old out.old) (outside_of S.Source O.Sink script.new out.new) result }
+    ensures handed_on { IsHandedOn
+        (outside_of S.Source O.Sink script.old out.old) (outside_of S.Source O.Sink script.new out.new) }
 {
     let mut piece = [0u8; PIECE];
     let mut left = LIMIT;
@@ -188,8 +191,8 @@ fn run_last<M: Store, F: Folder, O: Sink>(
     session.step(text, out)
 }
 
-/// Runs what is left at a script's end: its last line, and the frames after it.
-pub fn run_rest<M: Store, F: Folder, O: Sink>(
+// Runs the last line and the frames after it. Replies may still be held back.
+fn run_last_frames<M: Store, F: Folder, O: Sink>(
     session: &mut Session<M, F>,
     text: &[u8],
     out: &mut O,
@@ -202,4 +205,20 @@ pub fn run_rest<M: Store, F: Folder, O: Sink>(
         StepEnd::Went => session.finish(out),
         end => end,
     }
+}
+
+/// Runs what is left at a script's end: its last line, and the frames after it; then what was put is handed on.
+pub fn run_rest<M: Store, F: Folder, O: Sink>(
+    session: &mut Session<M, F>,
+    text: &[u8],
+    out: &mut O,
+) -> StepEnd
+    requires going { session.old.ended ≡ false }
+    ensures runs { RunsIn M.frugal O.Sink (rest_run session.old.state text.now)
+        session.old session.new out.old out.new result }
+    ensures handed_on { O.held_back out.new ≡ 0 }
+{
+    let end = run_last_frames(session, text, out);
+    out.flush();
+    end
 }

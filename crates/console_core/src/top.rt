@@ -3,7 +3,7 @@ ghost use Rattle.std.specs.Prelude.{◌≡◌, ◌↔◌, ◌<◌, ◌≤◌, �
 ghost use Rattle.std.specs.Prelude.{IfSome, IsSomeAnd, Some, None, false};
 ghost use Rattle.outside_io.specs.Causes.{Rose};
 ghost use Rattle.search_paths.specs.Path.{all_some};
-ghost use Rattle.console_core.specs.Outside.{outside_of, NoneFell};
+ghost use Rattle.console_core.specs.Outside.{outside_of, NoneFell, IsHandedOn};
 ghost use Rattle.console_core.specs.Ends.{AsksTooMuch, usage_of, told_state, Ends, RunEnds, IsStatusOf, IsAmong};
 ghost use Rattle.console_core.specs.Ends.{HasOwnCause, HandsOver, HasOutcome, IsComplete, no_events};
 ghost use Rattle.command_line.specs.CommandLine.{IsAsked};
@@ -51,6 +51,8 @@ fn run_session<M: Store, F: Folder, S: Source, O: Sink>(
     ensures not_small { result ≡ Status.TooSmall → ⊥ }
     ensures ends { RunEnds (told_state session.state) request.first
         (outside_of S.Source O.Sink script.old out.old) (outside_of S.Source O.Sink script.new out.new) result }
+    ensures handed_on { IsHandedOn
+        (outside_of S.Source O.Sink script.old out.old) (outside_of S.Source O.Sink script.new out.new) }
     ensures counts { NoneFell
         (outside_of S.Source O.Sink script.old out.old) (outside_of S.Source O.Sink script.new out.new) }
     ensures cause { HasOwnCause
@@ -86,6 +88,8 @@ fn run_folders<F: Folder, S: Source, O: Sink>(
     ensures too_small { (result ≡ Status.TooSmall) ↔ AsksTooMuch request }
     ensures ends { Ends F.files F.folder_calls folders.items request no_events
         (outside_of S.Source O.Sink script.old out.old) (outside_of S.Source O.Sink script.new out.new) result }
+    ensures handed_on { IsHandedOn
+        (outside_of S.Source O.Sink script.old out.old) (outside_of S.Source O.Sink script.new out.new) }
     ensures counts { NoneFell
         (outside_of S.Source O.Sink script.old out.old) (outside_of S.Source O.Sink script.new out.new) }
     ensures cause { HasOwnCause
@@ -156,7 +160,8 @@ fn run<F: Folder, S: Source, O: Sink>(
 /// The script is read in pieces of at most 4096 bytes, and every whole line among the bytes taken is run before the next
 /// read; it has at most 1,048,576 bytes, and no piece holds both the last of these and the one after it. A last line
 /// without a newline is a line where it isn't empty. `quit`, or a fault in a line, ends the run in the last piece that was
-/// read, and may leave bytes unread.
+/// read, and may leave bytes unread. What was put is handed on before each read but the first, and at the end: a sink that
+/// held nothing back before holds nothing back afterwards.
 ///
 /// With `Done` the replies of the run over the whole script were put, or those up to `quit`; after `ScriptFault` and
 /// `ScriptTooLong` those over the whole lines before; after `FolderFault` none, where the folder failed while it was

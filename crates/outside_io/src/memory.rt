@@ -212,6 +212,8 @@ impl Sink for MemSink {
 
     ghost sink_faults = { λ sink. sink.faults };
 
+    ghost held_back = { λ sink. 0 };
+
     /// Adds the piece. It fails exactly at the listed puts, where nothing is added, and at those that pass the
     /// capacity, where what fits is added.
     fn put(&mut self, piece: &[u8]) -> Result<(), SinkFailed>

@@ -82,6 +82,9 @@ pub trait Sink {
     /// How many puts have failed. The count stands still at the last value of a `u64`.
     ghost sink_faults: { Self → ℕ };
 
+    /// How many bytes of what was put are held back.
+    ghost held_back: { Self → ℕ };
+
     /// Adds the piece at the end. After an error a front of it was added.
     /// It fails only where a fault is counted.
     fn put(&mut self, piece: &[u8]) -> Result<(), SinkFailed>
@@ -92,6 +95,7 @@ pub trait Sink {
     /// Hands on what the sink may hold back of what was put. Where that fails the fault is counted, and each put from then on
     /// fails.
     fn flush(&mut self)
+        ensures handed_on { held_back self.new ≡ 0 }
         ensures same { got self.new ≡ got self.old }
         ensures faults { sink_faults self.old ≤ sink_faults self.new };
 }

@@ -12,7 +12,7 @@ mod streams;
 
 use console_core::{Status, exit_code, quake_main, status_line, status_told};
 use folder::DirFolder;
-use outside_io::{Folder, Sink};
+use outside_io::Folder;
 use std::io::{ErrorKind, Write};
 use std::process::ExitCode;
 use std::{env, io};
@@ -72,7 +72,6 @@ fn main(rt: HostRuntime) -> ExitCode {
     let mut script = StdinSource::new(rt.stdin());
     let mut out = StdoutSink::new(rt.stdout());
     let status = quake_main(alloc, &words, folders, &mut script, &mut out);
-    // What is held back is written. Where that fails, not all that was put has come out.
-    out.flush();
+    // All that was put was handed on. Where that failed, not all of it has come out.
     report(&rt, &status_told(status, out.has_failed()))
 }

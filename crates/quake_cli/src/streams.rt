@@ -1,5 +1,5 @@
 // Standard input and standard output.
-ghost use Rattle.std.specs.Prelude.{◌≡◌, ◌≤◌, ◌<◌, ℕ, OnOk, OnErr, length, take};
+ghost use Rattle.std.specs.Prelude.{◌≡◌, ◌≤◌, ◌<◌, ℕ, [], OnOk, OnErr, length, take};
 ghost use Rattle.std.specs.Io.KnownBytes.{Appends};
 
 use arrayvec::ArrayVec;
@@ -82,7 +82,8 @@ impl StdoutSink {
 
     // Writes what is held back.
     fn write_held(&mut self)
-        ensures { self.new.faults ≡ self.old.faults }
+        ensures empty { self.new.held.items ≡ [] }
+        ensures faults { self.new.faults ≡ self.old.faults }
     {
         if let Err(_) = put_whole(&mut self.output, self.held.as_slice()) {
             self.failed = true;
@@ -108,12 +109,14 @@ impl StdoutSink {
 }
 
 impl Sink for StdoutSink {
-    ghost use Rattle.std.specs.Prelude.{◌≡◌, ◌≤◌, None};
+    ghost use Rattle.std.specs.Prelude.{◌≡◌, ◌≤◌, None, length};
     ghost use Rattle.outside_io.specs.Causes.{after_call};
 
     ghost got = { λ sink. None };
 
     ghost sink_faults = { λ sink. sink.faults };
+
+    ghost held_back = { λ sink. length sink.held.items };
 
     fn put(&mut self, piece: &[u8]) -> Result<(), SinkFailed>
         ensures faults { self.new.faults ≡ after_call result self.old.faults }
@@ -132,6 +135,7 @@ impl Sink for StdoutSink {
         ensures faults { self.old.faults ≤ self.new.faults }
     {
         if self.failed {
+            self.held.clear();
             return;
         }
         self.write_held();

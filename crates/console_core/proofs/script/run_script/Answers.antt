@@ -66,6 +66,7 @@ read-init g c = record {
   going = c.requires.going;
   path = refl;
   counted = counted_none _ _;
+  handed_on = λ none. none;
   script_counts = omega arith;
 }
 
@@ -116,6 +117,7 @@ read-preserved g c =
       going = c.in-Went.ensures.ended;
       path = c.in-Went.ensures.runs.path ∙ c.read.invariant.path;
       counted = counted_then _ _ _ _ _ _ c.read.invariant.counted (counted_of _ _ _ _ _ _ c.in-Went.ensures.runs.causes);
+      handed_on = λ none. c.in-Went.ensures.handed_on;
       script_counts = omega (arith, c.read.invariant.script_counts, c.in-Ok.ensures.cause.never_falls);
     }
 

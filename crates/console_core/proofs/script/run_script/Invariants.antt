@@ -17,6 +17,7 @@ invariant-read g l =
       going : l.session.ended ≡ false;
       path : l.session.state.path ≡ l.initial.session.state.path;
       counted : Counted l.initial.session.faults l.session.faults (g.O.Sink.sink_faults l.initial.out) (g.O.Sink.sink_faults l.out);
+      handed_on : g.O.Sink.held_back l.initial.out ≡ 0 → g.O.Sink.held_back l.out ≡ 0;
       script_counts : g.S.Source.source_faults l.initial.script ≤ g.S.Source.source_faults l.script;
     }
 

@@ -9,6 +9,7 @@ returns-in-Err g c = record {
   usage = refl;
   too_small = tt;
   ends = record { rest = refl; put = refl };
+  handed_on = λ none. none;
   counts = record { script = omega arith; sink = omega arith };
   cause = (refl, refl);
   handed_back = tt;
@@ -23,6 +24,7 @@ returns g c =
       usage = c.run_folders.ensures.usage;
       too_small = c.run_folders.ensures.too_small;
       ends = rw c.from_word-folders.ensures at c.run_folders.ensures.ends;
+      handed_on = c.run_folders.ensures.handed_on;
       counts = c.run_folders.ensures.counts;
       cause = c.run_folders.ensures.cause;
       handed_back = hands_back g.F.Folder.files g.F.Folder.folder_faults c.args.folders.items c.from_word-folders.result.items c.in-Ok.request c.from_word-folders.ensures c.run_folders.result all c.run_folders.ensures.handed_over;

@@ -46,7 +46,7 @@ returns-in-AtEnd-clause-ends g c =
     let read = c.in-AtEnd.ensures.read in
     let kept = c.run_script.new.pending.items in
     let rest = rest_run between kept in
-    let ran = rw c.as_slice.ensures.value at c.run_rest-end.ensures.told in
+    let ran = rw c.as_slice.ensures.value at c.run_rest-end.ensures.runs.told in
     let start = g.O.Sink.got c.args.out.now in
     let mid = g.O.Sink.got c.run_script.new.out in
     let now = g.O.Sink.got c.run_rest-end.new.out in
@@ -54,7 +54,7 @@ returns-in-AtEnd-clause-ends g c =
     ends_behind c.status_of.result c.args.request.first g.F.Folder.files g.F.Folder.folder_faults _ _ first new
     (outside_of g.S.Source g.O.Sink c.args.script.now c.args.out.now) (outside_of g.S.Source g.O.Sink c.run_script.new.script c.run_rest-end.new.out)
     read.taken read.took read.ends.0 between mid read.ends.1 read.run (goes_still rest.replies rest.end (told_end c.run_rest-end.result) new mid now ran)
-    c.run_rest-end.result all (rw (c.run_rest-end.ensures.path, c.run_script.ensures.path) at c.status_of.ensures)
+    c.run_rest-end.result all (rw (c.run_rest-end.ensures.runs.path, c.run_script.ensures.path) at c.status_of.ensures)
 
 pub returns-in-Ended-clause-handed_over : goal.returns-in-Ended-clause-handed_over
 returns-in-Ended-clause-handed_over g c =
@@ -64,5 +64,5 @@ pub returns-in-AtEnd-clause-handed_over : goal.returns-in-AtEnd-clause-handed_ov
 returns-in-AtEnd-clause-handed_over g c =
     let read = c.in-AtEnd.ensures.causes in
     let counted : Counted _ _ _ _ = record { none_falls = read.none_falls; folders = read.folders; sink_counts = read.counts.sink } in
-    let causes = causes_later _ _ _ _ _ _ _ _ counted c.run_rest-end.ensures.causes in
-    hands_over c.status_of.result c.args.request.first g.F.Folder.files g.F.Folder.folder_faults _ _ _ _ _ _ c.run_rest-end.result causes.cause (rw (c.run_rest-end.ensures.path, c.run_script.ensures.path) at c.status_of.ensures)
+    let causes = causes_later _ _ _ _ _ _ _ _ counted c.run_rest-end.ensures.runs.causes in
+    hands_over c.status_of.result c.args.request.first g.F.Folder.files g.F.Folder.folder_faults _ _ _ _ _ _ c.run_rest-end.result causes.cause (rw (c.run_rest-end.ensures.runs.path, c.run_script.ensures.path) at c.status_of.ensures)
