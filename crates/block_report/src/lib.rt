@@ -189,11 +189,12 @@ impl Section {
     }
 }
 
-/// Puts the sizes of the memory, a line for each block of the low hunk, the high hunk and the zone, the place of the zone's
-/// rover, a line for each block of the cache, and one for each of its users. The blocks go by rising place, the users from the
-/// most recently used on.
+/// Puts the sizes of the memory, a line for each block of the low hunk, the high hunk and the zone, the place of the
+/// zone's rover, a line for each block of the cache, and one for each of its users. The blocks go by rising place, the
+/// users from the most recently used on.
 ///
-/// It takes no memory, and asks the store for each block and user once, in order. After an error a front of the text was put.
+/// It takes no memory, and asks the store for each block and user once, in order. After an error a front of the text
+/// was put.
 pub fn report<M: Store, O: Sink>(store: &M, out: &mut O) -> Result<(), SinkFailed>
     ensures { PutsText O.Sink (report_text (M.state store.now)) out.old out.new result }
 {

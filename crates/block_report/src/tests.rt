@@ -18,8 +18,8 @@ fn cache<M: Store>(store: &mut M, user: u32, size: u64, name: &[u8]) -> bool
     store.cache_alloc(user, size, name).is_ok()
 }
 
-// Two blocks in the cache, over which blocks of the low hunk grow; blocks in both hunks, the newest of them temporary; and one in
-// the zone.
+// Two blocks in the cache, over which blocks of the low hunk grow; blocks in both hunks, the newest of them temporary;
+// and one in the zone.
 fn filled(alloc: Global) -> Result<PlainStore, Fail> {
     let mut store = PlainStore::create(alloc, 65_536, 49_152, 8)?;
     cache(&mut store, 3, 56, b"one");

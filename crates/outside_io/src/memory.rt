@@ -25,7 +25,8 @@ impl Model for MemFolder {
 
     ghost Value = { FolderState };
 
-    ghost view = { λ f. record { files = told f.files.items; failing = f.tally.failing.items; calls = f.tally.calls; faults = f.tally.faults } };
+    ghost view = { λ f. record {
+        files = told f.files.items; failing = f.tally.failing.items; calls = f.tally.calls; faults = f.tally.faults } };
 
     ghost invariant = { λ f. All (λ file. vec_len file.bytes < 2 ^ 62) f.files.items };
 }
@@ -60,7 +61,8 @@ impl Folder for MemFolder {
         ensures length { IfOk result (λ len. len ≡ length_of name.now self.old.files) }
         ensures limit { IfOk result (λ len. IfSome len (λ n. n < 2 ^ 62)) }
         ensures listed { IsErr result ↔ Contains self.old.failing self.old.calls }
-        ensures same { self.new ≡ record self.old { calls = one_more self.old.calls; faults = after_call result self.old.faults } }
+        ensures same { self.new
+            ≡ record self.old { calls = one_more self.old.calls; faults = after_call result self.old.faults } }
     {
         if self.tally.count_call() {
             return Err(FolderFailed);
@@ -76,7 +78,8 @@ impl Folder for MemFolder {
         requires { HasRange name.now at (length into.old) self.old.files }
         ensures filled { OnOk result (IsPartOf name.now at into.new self.old.files) }
         ensures listed { IsErr result ↔ Contains self.old.failing self.old.calls }
-        ensures same { self.new ≡ record self.old { calls = one_more self.old.calls; faults = after_call result self.old.faults } }
+        ensures same { self.new
+            ≡ record self.old { calls = one_more self.old.calls; faults = after_call result self.old.faults } }
     {
         if self.tally.count_call() {
             return Err(FolderFailed);
@@ -112,7 +115,9 @@ impl Model for MemSource {
 
     ghost Value = { SourceState };
 
-    ghost view = { λ s. record { rest = drop s.at s.bytes.items; piece = s.piece; failing = s.tally.failing.items; calls = s.tally.calls; faults = s.tally.faults } };
+    ghost view = { λ s. record {
+        rest = drop s.at s.bytes.items; piece = s.piece;
+        failing = s.tally.failing.items; calls = s.tally.calls; faults = s.tally.faults } };
 
     ghost invariant = { λ s. (s.at ≤ vec_len s.bytes) × (0 < s.piece) };
 }
@@ -150,7 +155,8 @@ impl Source for MemSource {
         ensures taken { IfOk result (λ n. TakesFront (Some self.old.rest) (Some self.new.rest) n into.new) }
         ensures kept { OnErr result (self.new.rest ≡ self.old.rest) }
         ensures listed { IsErr result ↔ Contains self.old.failing self.old.calls }
-        ensures same { self.new ≡ record self.old { rest = self.new.rest; calls = one_more self.old.calls; faults = after_call result self.old.faults } }
+        ensures same { self.new ≡ record self.old {
+            rest = self.new.rest; calls = one_more self.old.calls; faults = after_call result self.old.faults } }
     {
         if self.tally.count_call() {
             return Err(SourceFailed);
@@ -177,7 +183,9 @@ impl Model for MemSink {
 
     ghost Value = { SinkState };
 
-    ghost view = { λ s. record { got = s.bytes.items; capacity = s.capacity; failing = s.tally.failing.items; calls = s.tally.calls; faults = s.tally.faults } };
+    ghost view = { λ s. record {
+        got = s.bytes.items; capacity = s.capacity;
+        failing = s.tally.failing.items; calls = s.tally.calls; faults = s.tally.faults } };
 
     ghost invariant = { λ s. (vec_len s.bytes ≤ s.capacity) × (s.capacity ≤ vec_capacity s.bytes) };
 }
@@ -186,7 +194,8 @@ impl MemSink {
     /// An empty sink. The puts of these numbers, from 0, fail, and so do those that would pass the capacity in bytes.
     /// It refuses only for want of memory.
     pub fn create(alloc: Global, capacity: usize, fails: Vec<u64>) -> Result<MemSink, AllocError>
-        ensures { IfOk result (λ sink. sink ≡ record { got = []; capacity = capacity; failing = fails.items; calls = 0; faults = 0 }) }
+        ensures { IfOk result (λ sink. sink
+            ≡ record { got = []; capacity = capacity; failing = fails.items; calls = 0; faults = 0 }) }
     {
         Ok(MemSink {
             bytes: Vec::with_capacity(alloc, capacity)?,
@@ -219,10 +228,13 @@ impl Sink for MemSink {
     fn put(&mut self, piece: &[u8]) -> Result<(), SinkFailed>
         ensures added { OnOk result (Adds piece.now (Some self.old.got) (Some self.new.got)) }
         ensures part { OnErr result (AddsFront piece.now (Some self.old.got) (Some self.new.got)) }
-        ensures failed { IsErr result ↔ (Contains self.old.failing self.old.calls ⊎ self.old.capacity < length self.old.got + length piece.now) }
+        ensures failed { IsErr result ↔ (Contains self.old.failing self.old.calls
+            ⊎ self.old.capacity < length self.old.got + length piece.now) }
         ensures listed { Contains self.old.failing self.old.calls → self.new.got ≡ self.old.got }
-        ensures fits { (Contains self.old.failing self.old.calls → ⊥) → self.new.got ≡ take self.old.capacity (self.old.got ++ piece.now) }
-        ensures same { self.new ≡ record self.old { got = self.new.got; calls = one_more self.old.calls; faults = after_call result self.old.faults } }
+        ensures fits { (Contains self.old.failing self.old.calls → ⊥)
+            → self.new.got ≡ take self.old.capacity (self.old.got ++ piece.now) }
+        ensures same { self.new ≡ record self.old {
+            got = self.new.got; calls = one_more self.old.calls; faults = after_call result self.old.faults } }
     {
         if self.tally.count_call() {
             return Err(SinkFailed);

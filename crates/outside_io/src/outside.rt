@@ -75,8 +75,8 @@ pub trait Source {
 
 /// A place to put bytes.
 pub trait Sink {
-    /// The bytes that were put, where the sink tells them. Of a sink that holds back they are those that it took, whether they
-    /// were handed on or not: where a flush fails, what stands behind the sink is a front of them.
+    /// The bytes that were put, where the sink tells them. Of a sink that holds back they are those that it took, whether
+    /// they were handed on or not: where a flush fails, what stands behind the sink is a front of them.
     ghost got: { Self → Option (List ℕ) };
 
     /// How many puts have failed. The count stands still at the last value of a `u64`.
@@ -92,8 +92,8 @@ pub trait Sink {
         ensures part { OnErr result (AddsFront piece.now (got self.old) (got self.new)) }
         ensures cause { HasCause (sink_faults self.old) (sink_faults self.new) result };
 
-    /// Hands on what the sink may hold back of what was put. Where that fails the fault is counted, and each put from then on
-    /// fails.
+    /// Hands on what the sink may hold back of what was put. Where that fails the fault is counted, and each put from
+    /// then on fails.
     fn flush(&mut self)
         ensures handed_on { held_back self.new ≡ 0 }
         ensures same { got self.new ≡ got self.old }

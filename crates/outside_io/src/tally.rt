@@ -26,7 +26,9 @@ impl Tally {
     // Counts a call, and says whether it fails: where its number is listed, and a fault is counted then.
     pub(crate) fn count_call(&mut self) -> bool
         ensures listed { IsTrue result ↔ Contains self.old.failing.items self.old.calls }
-        ensures same { self.new ≡ record self.old { calls = one_more self.old.calls; faults = if result then one_more self.old.faults else self.old.faults } }
+        ensures same { self.new ≡ record self.old {
+            calls = one_more self.old.calls;
+            faults = if result then one_more self.old.faults else self.old.faults } }
     {
         let listed = self.failing.contains(&self.calls);
         self.calls = self.calls.saturating_add(1);
