@@ -26,7 +26,11 @@ impl Model for MemFolder {
     ghost Value = { FolderState };
 
     ghost view = { λ f. record {
-        files = told f.files.items; failing = f.tally.failing.items; calls = f.tally.calls; faults = f.tally.faults } };
+      files = told f.files.items;
+      failing = f.tally.failing.items;
+      calls = f.tally.calls;
+      faults = f.tally.faults;
+    } };
 
     ghost invariant = { λ f. All (λ file. vec_len file.bytes < 2 ^ 62) f.files.items };
 }
@@ -116,8 +120,12 @@ impl Model for MemSource {
     ghost Value = { SourceState };
 
     ghost view = { λ s. record {
-        rest = drop s.at s.bytes.items; piece = s.piece;
-        failing = s.tally.failing.items; calls = s.tally.calls; faults = s.tally.faults } };
+      rest = drop s.at s.bytes.items;
+      piece = s.piece;
+      failing = s.tally.failing.items;
+      calls = s.tally.calls;
+      faults = s.tally.faults;
+    } };
 
     ghost invariant = { λ s. (s.at ≤ vec_len s.bytes) × (0 < s.piece) };
 }
@@ -156,7 +164,10 @@ impl Source for MemSource {
         ensures kept { OnErr result (self.new.rest ≡ self.old.rest) }
         ensures listed { IsErr result ↔ Contains self.old.failing self.old.calls }
         ensures same { self.new ≡ record self.old {
-            rest = self.new.rest; calls = one_more self.old.calls; faults = after_call result self.old.faults } }
+          rest = self.new.rest;
+          calls = one_more self.old.calls;
+          faults = after_call result self.old.faults;
+        } }
     {
         if self.tally.count_call() {
             return Err(SourceFailed);
@@ -184,8 +195,12 @@ impl Model for MemSink {
     ghost Value = { SinkState };
 
     ghost view = { λ s. record {
-        got = s.bytes.items; capacity = s.capacity;
-        failing = s.tally.failing.items; calls = s.tally.calls; faults = s.tally.faults } };
+      got = s.bytes.items;
+      capacity = s.capacity;
+      failing = s.tally.failing.items;
+      calls = s.tally.calls;
+      faults = s.tally.faults;
+    } };
 
     ghost invariant = { λ s. (vec_len s.bytes ≤ s.capacity) × (s.capacity ≤ vec_capacity s.bytes) };
 }
@@ -234,7 +249,10 @@ impl Sink for MemSink {
         ensures fits { (Contains self.old.failing self.old.calls → ⊥)
             → self.new.got ≡ take self.old.capacity (self.old.got ++ piece.now) }
         ensures same { self.new ≡ record self.old {
-            got = self.new.got; calls = one_more self.old.calls; faults = after_call result self.old.faults } }
+          got = self.new.got;
+          calls = one_more self.old.calls;
+          faults = after_call result self.old.faults;
+        } }
     {
         if self.tally.count_call() {
             return Err(SinkFailed);

@@ -27,8 +27,9 @@ impl Tally {
     pub(crate) fn count_call(&mut self) -> bool
         ensures listed { IsTrue result ↔ Contains self.old.failing.items self.old.calls }
         ensures same { self.new ≡ record self.old {
-            calls = one_more self.old.calls;
-            faults = if result then one_more self.old.faults else self.old.faults } }
+          calls = one_more self.old.calls;
+          faults = if result then one_more self.old.faults else self.old.faults;
+        } }
     {
         let listed = self.failing.contains(&self.calls);
         self.calls = self.calls.saturating_add(1);
