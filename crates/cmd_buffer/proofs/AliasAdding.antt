@@ -13,12 +13,12 @@ use Rattle.mem_model.specs.Apart.{NoneIs}
 use Rattle.mem_model.specs.Hunk.{over}
 use Rattle.mem_model.specs.Zone.{zone_bytes, with_zone_bytes}
 use Rattle.mem_model.specs.Operations.{z_alloc, z_free}
-use Rattle.mem_model.proofs.Laying.{length-over}
+use Rattle.mem_model.proofs.Laying.{length-over, over_front}
 use Rattle.mem_model.proofs.ZoneLaying.{Laid-z_alloc}
 use Rattle.mem_model.proofs.ZoneLaws.{zone_bytes-z_alloc, zone_bytes-new, zone_place_apart, zone_bytes-z_free, zone_bytes-written, zone_bytes-elsewhere, zone_bytes-small, some-with_zone_bytes, NoneIs-z_new}
 use Rattle.zone_values.specs.Held.{AreHeld, OthersStay, KeepsAt}
 use Rattle.zone_values.specs.Values.{put_value, value_at}
-use Rattle.zone_values.proofs.Writing.{over_front, with_zone_bytes-over}
+use Rattle.zone_values.proofs.Writing.{with_zone_bytes-over}
 use Rattle.zone_values.proofs.ValueLaws.{Laid-put_value, put_apart, NoneIs-put_value, zone_bytes-put_value, zone_bytes-put_new, some-put_new, value_at-put_value}
 use Rattle.zone_values.proofs.HeldLaws.{some_bytes, AreUsed-kept}
 use Rattle.cmd_buffer.specs.Aliases.{Alias, place_of, number_of, next_in, name_in, value_in, spelled, IsRecord, IsChain, HoldsAliases, aliases_of, alias_places, AliasText, text_of, alias_texts, added, record_added, record_written}

@@ -5,8 +5,8 @@ use Rattle.std.specs.Option.{unwrap_or}
 use Rattle.base_fields.specs.Fields.{with_field}
 use Rattle.base_fields.proofs.FieldLaws.{with_field-between, length-with_field}
 use Rattle.mem_model.specs.Hunk.{over}
+use Rattle.mem_model.proofs.Laying.{over_front}
 use Rattle.cmd_buffer.specs.Aliases.{number_of}
-use Rattle.zone_values.proofs.Writing.{over_front}
 use borrow.Rule.Slice.PartMut.{put_mid}
 
 -- a part that was written is a field that was put

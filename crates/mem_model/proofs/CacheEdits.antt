@@ -20,7 +20,7 @@ pub written_whole : {X : Type 0} (xs ys : List X) (n : ℕ) → length xs ≡ le
 written_whole xs ys n h k = ap (λ rest. take n (xs ++ rest)) (drop_all (length xs) ys (omega arith)) ∙ ap (take n) (append-nil xs) ∙ take_all n xs (omega arith)
 
 -- a block that stands somewhere counts for its user
-counted_at : (blocks : List CacheBlock) (at : ℕ) (b : CacheBlock) → slice_get blocks at ≡ Some b → 0 < count_in b.user (users_of blocks)
+pub counted_at : (blocks : List CacheBlock) (at : ℕ) (b : CacheBlock) → slice_get blocks at ≡ Some b → 0 < count_in b.user (users_of blocks)
 counted_at [] at b h = absurd (cc)
 counted_at (x ∷ xs) zero b h = (let same : x ≡ b = cc in rw (eq-eqb x.user b.user (ap (λ (y : CacheBlock). y.user) same)) (omega arith))
 counted_at (x ∷ xs) (suc at) b h = omega (arith, counted_at xs at b h)

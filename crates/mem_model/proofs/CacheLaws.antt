@@ -206,7 +206,7 @@ unfolding high_mark
 sound-high_mark m laid = sound-noted _ (sound-without_temp m laid)
 
 -- The cache's own operations.
-Laid-with_cache : (m : Memory) (c : Cache) → Laid m → IsCache c m.users (low_used m) (high_start m) → Laid (record m { cache = c })
+pub Laid-with_cache : (m : Memory) (c : Cache) → Laid m → IsCache c m.users (low_used m) (high_start m) → Laid (record m { cache = c })
 Laid-with_cache m c laid is = record {
   small = laid.small;
   inside = laid.inside;

@@ -1,12 +1,13 @@
 -- Worked examples, on a memory of 65536 bytes with a zone of 49152 and 8 users. Its low hunk ends at 49168.
-use Rattle.std.proofs.Common.{◌≡◌, ℕ, List, [], ◌∷◌, Bool, Some, None, Ok, Err, refl, true, false, map, replicate}
+use Rattle.std.proofs.Common.{◌≡◌, ℕ, List, [], ◌∷◌, ◌++◌, Bool, Some, None, Result, Ok, Err, refl, true, false, map, replicate}
 use Rattle.mem_model.specs.Event.{Event.LowAlloc, Event.TempAlloc, Event.HighMark, Event.LowFree, FreeRefusal.NotZone, FreeRefusal.AlreadyFree, CacheRefusal.Occupied, CacheRefusal.BadSize, CacheRefusal.NoRoom}
 use Rattle.mem_model.specs.Memory.{Memory, new_memory, room}
 use Rattle.mem_model.specs.Places.{fit, hop}
-use Rattle.mem_model.specs.Cache.{hopped, up_in, pushed_up, down_in, pushed_down, evictions, with_new, peek_place}
+use Rattle.mem_model.specs.Cache.{hopped, up_in, pushed_up, down_in, pushed_down, evictions, with_new, peek_bytes, peek_place}
 use Rattle.mem_model.specs.Zone.{chosen, with_taken, joined_at, with_free, position_of, zone_bytes, with_zone_bytes, rover_place}
-use Rattle.mem_model.specs.Hunk.{with_low, with_high, without_temp, over}
-use Rattle.mem_model.specs.Operations.{low_alloc, low_free, high_taken, high_alloc, high_free, high_mark, temp_alloc, z_alloc, z_free, cache_alloc, check, cache_free, flush}
+use Rattle.mem_model.specs.Hunk.{with_low, with_high, without_temp, over, low_bytes, with_low_bytes, temp_bytes, with_temp_bytes}
+use Rattle.mem_model.specs.Images.{with_cache_bytes, with_user_bytes}
+use Rattle.mem_model.specs.Operations.{low_alloc, low_free, high_taken, high_alloc, high_free, high_mark, temp_alloc, z_alloc, z_free, cache_alloc, check, cache_free, flush, build_low, build_cache, copy_low_to_cache}
 
 abbrev fresh : Memory
 fresh = new_memory 65536 49152 8 0
@@ -224,3 +225,24 @@ refusal_kept = refl
 temp_kept_alone : (high_mark (temp_alloc keeps_two 10).after).after.events ≡ TempAlloc 10 (Ok 65520) ∷ HighMark 0 ∷ []
 unfolding temp_alloc high_taken without_temp with_high pushed_down down_in high_mark
 temp_kept_alone = refl
+
+-- a low block of 16 bytes, a user with 8, and 16 temporary bytes that begin with 7, 8 and 9
+abbrev loaded : Memory
+loaded = with_temp_bytes (temp_alloc (cache_alloc (low_alloc fresh 16 []).after 2 8 []).after 16).after (7 ∷ 8 ∷ 9 ∷ [])
+
+-- the image of bytes is these twice
+abbrev doubled : List ℕ → Result (List ℕ) ℕ
+doubled bytes = Ok (bytes ++ bytes)
+
+-- An image is of so many bytes as were said, and what stood behind it in the block stays.
+low_image : low_bytes (build_low loaded 49184 2 doubled).after 49184 ≡ Some (7 ∷ 8 ∷ 7 ∷ 8 ∷ replicate 12 0)
+unfolding low_alloc with_low pushed_up up_in cache_alloc evictions with_new fit temp_alloc high_taken without_temp with_high pushed_down down_in with_temp_bytes temp_bytes over build_low low_bytes with_low_bytes
+low_image = refl
+
+cache_image : (peek_bytes (build_cache loaded 2 1 doubled).after.cache 2 ≡ Some (7 ∷ 7 ∷ replicate 6 0)) × ((build_cache loaded 2 1 doubled).after.cache.recency ≡ 2 ∷ [])
+unfolding low_alloc with_low pushed_up up_in cache_alloc evictions with_new fit temp_alloc high_taken without_temp with_high pushed_down down_in with_temp_bytes temp_bytes over build_cache peek_bytes with_cache_bytes with_user_bytes
+cache_image = (refl, refl)
+
+low_copied : peek_bytes (copy_low_to_cache (build_low loaded 49184 2 doubled).after 49184 2 3).after.cache 2 ≡ Some (7 ∷ 8 ∷ 7 ∷ replicate 5 0)
+unfolding low_alloc with_low pushed_up up_in cache_alloc evictions with_new fit temp_alloc high_taken without_temp with_high pushed_down down_in with_temp_bytes temp_bytes over build_low low_bytes with_low_bytes copy_low_to_cache peek_bytes with_cache_bytes with_user_bytes
+low_copied = refl

@@ -1,7 +1,7 @@
 -- What keeps a memory laid out.
-use Rattle.std.proofs.Common.{◌≡◌, ℕ, suc, zero, ◌+◌, ◌-◌, ◌≤◌, List, [], ◌∷◌, ◌++◌, true, false, length, take, refl, ap, ◌∙◌, arith, eqb, cond, length-append, length-drop, length-take}
+use Rattle.std.proofs.Common.{◌≡◌, ℕ, suc, zero, ◌+◌, ◌-◌, ◌≤◌, List, [], ◌∷◌, ◌++◌, true, false, length, take, drop, refl, ap, ◌∙◌, arith, eqb, cond, length-append, length-drop, length-take}
 use Rattle.std.specs.Prelude.{◌^◌, ◌≢◌, ◌<◌}
-use Rattle.std.proofs.lemmas.List.{drop_all, take_at, length-replicate}
+use Rattle.std.proofs.lemmas.List.{drop_all, take_all, take_at, length-replicate}
 use Rattle.std.proofs.lemmas.List.Elements.{All-take}
 use Rattle.std.specs.List.{AllByRecursion}
 use Rattle.mem_model.specs.Blocks.{HunkBlock, CacheBlock}
@@ -63,6 +63,11 @@ length-over old bytes = simp (length-take, length-append, length-drop) (omega ar
 pub over_same : (old bytes : List ℕ) → length bytes ≡ length old → over old bytes ≡ bytes
 unfolding over
 over_same old bytes h = ap (λ rest. take (length old) (bytes ++ rest)) (drop_all (length bytes) old (omega arith)) ∙ take_at bytes [] (length old) h
+
+-- what is no longer than the old bytes stands before their rest
+pub over_front : (old bytes : List ℕ) → length bytes ≤ length old → over old bytes ≡ bytes ++ drop (length bytes) old
+unfolding over
+over_front old bytes short = take_all (length old) (bytes ++ drop (length bytes) old) (omega (arith, length-append bytes (drop (length bytes) old), length-drop (length bytes) old))
 
 size_of-with_bytes : (start : ℕ) (blocks : List HunkBlock) (place : ℕ) (bytes : List ℕ) → size_of (with_bytes_from start blocks place bytes) ≡ size_of blocks
 size_of-with_bytes start [] place bytes = refl

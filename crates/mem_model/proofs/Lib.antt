@@ -31,3 +31,5 @@ pub mod Untouched
 pub mod ZoneApart
 pub mod ZoneLaws
 pub mod CacheLaws
+pub mod CacheBytes
+pub mod Building

@@ -1,6 +1,6 @@
 -- The bytes of the newest high block, which an active temporary block has.
-use Rattle.std.proofs.Common.{◌≡◌, ℕ, ◌+◌, ◌-◌, List, [], ◌∷◌, ◌++◌, Option, Some, None, length, refl, ap, ◌∙◌, arith}
-use Rattle.std.specs.Prelude.{IsSome, slice_get, slice_set}
+use Rattle.std.proofs.Common.{◌≡◌, ℕ, ◌+◌, ◌-◌, List, [], ◌∷◌, ◌++◌, Option, Some, None, ◌≤◌, length, refl, ap, sym, ◌∙◌, arith}
+use Rattle.std.specs.Prelude.{◌^◌, IsSome, slice_get, slice_set}
 use Rattle.std.specs.Option.{option_map}
 use Rattle.std.specs.List.{AllByRecursion}
 use Rattle.mem_model.specs.Blocks.{HunkBlock}
@@ -108,3 +108,14 @@ with_temp_of m bytes (Some mark) laid = Laid-with_last m bytes laid
 pub Laid-with_temp_bytes : (m : Memory) (bytes : List ℕ) → Laid m → Laid (with_temp_bytes m bytes)
 unfolding with_temp_bytes
 Laid-with_temp_bytes m bytes laid = with_temp_of m bytes m.temp laid
+
+last_small : (blocks : List HunkBlock) (bytes : List ℕ) → AllByRecursion IsHunkBlock blocks → last_bytes blocks ≡ Some bytes → length bytes ≤ size_of blocks
+last_small [] bytes p h = absurd (cc)
+last_small (b ∷ []) bytes p h = let same : b.bytes ≡ bytes = cc in omega (arith, p.0.bytes, ap length same)
+last_small (b ∷ c ∷ bs) bytes p h = omega (arith, last_small (c ∷ bs) bytes p.1 h)
+
+-- The temporary bytes are no more than the largest arena has.
+pub temp_bytes-small : (m : Memory) (bytes : List ℕ) → Laid m → temp_bytes m ≡ Some bytes → length bytes ≤ 2 ^ 26
+temp_bytes-small m bytes laid h =
+    let mark = mark_of m (rw h refl) in
+    omega (arith, last_small m.high bytes laid.high (sym (temp_bytes-some m mark.0 mark.1) ∙ h), laid.inside, laid.small)

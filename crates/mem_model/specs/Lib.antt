@@ -6,6 +6,7 @@ pub mod Places
 pub mod Cache
 pub mod Zone
 pub mod Hunk
+pub mod Images
 pub mod Operations
 pub mod Apart
 pub mod Laid
@@ -13,7 +14,6 @@ pub mod Gaps
 pub mod Turns
 pub mod Tables
 pub mod Keeps
-pub mod Images
 pub mod Rows
 pub mod Told
 pub mod Plain

@@ -7,7 +7,8 @@ use Rattle.mem_model.specs.Memory.{Memory, low_used, high_used, high_start, room
 use Rattle.mem_model.specs.Answer.{Answered, noted}
 use Rattle.mem_model.specs.Cache.{with_new, block_of, peek_place, without, touched}
 use Rattle.mem_model.specs.Zone.{chosen, with_taken, with_free, position_of, place_at}
-use Rattle.mem_model.specs.Hunk.{hunk_block, with_low, with_high, without_temp, cut_from, cut_above}
+use Rattle.mem_model.specs.Hunk.{hunk_block, with_low, with_high, without_temp, cut_from, cut_above, low_bytes, with_low_bytes, temp_bytes}
+use Rattle.mem_model.specs.Images.{front_of, with_cache_bytes, with_image}
 
 -- what a request asks, and the room that there is
 abbrev pub shortage : Memory → ℕ → Shortage
@@ -112,3 +113,15 @@ cache_free m user =
 -- Every block of the cache is freed.
 unfoldable pub flush : Memory → Answered (Unit {0})
 flush m = noted (record { answer = tt; after = record m { cache = record { blocks = []; recency = [] } } }) (λ done. Flush)
+
+-- The front of a low block becomes the image of the first `len` temporary bytes.
+unfoldable pub build_low : {F : Type 0} → Memory → ℕ → ℕ → (List ℕ → Result (List ℕ) F) → Answered (Unit {0})
+build_low m place len image_of = record { answer = tt; after = with_image m (with_low_bytes m place) (image_of (front_of (temp_bytes m) len)) }
+
+-- The front of a user's block becomes the image of the first `len` temporary bytes.
+unfoldable pub build_cache : {F : Type 0} → Memory → ℕ → ℕ → (List ℕ → Result (List ℕ) F) → Answered (Unit {0})
+build_cache m user len image_of = record { answer = tt; after = with_image m (with_cache_bytes m user) (image_of (front_of (temp_bytes m) len)) }
+
+-- The front of a user's block becomes the first `size` bytes of a low block.
+unfoldable pub copy_low_to_cache : Memory → ℕ → ℕ → ℕ → Answered (Unit {0})
+copy_low_to_cache m place user size = record { answer = tt; after = with_cache_bytes m user (front_of (low_bytes m place) size) }

@@ -3,8 +3,10 @@
 ghost use Rattle.std.specs.Prelude.{◌≡◌, ◌+◌, ◌-◌, ◌^◌, ◌<◌, ◌≤◌, ◌∷◌, [], length, slice_get, slice_index_or, drop, vec_len, vec_capacity};
 ghost use Rattle.std.specs.Prelude.{ℕ, List, map, is_some, IfOk, OnOk, OnErr, IfSome, IsSome, Some, None, MatchOption};
 ghost use Rattle.std.specs.List.{AllByRecursion, insert, remove};
+ghost use Rattle.std.specs.Borrow.{sem, Lends, u8 as byte, Array};
 ghost use Rattle.mem_model.specs.Blocks.{CacheBlock};
-ghost use Rattle.mem_model.specs.Cache.{without_user, without, moved, lowest_below, pushed_up, highest_above, pushed_down, block_of, find_block, with_new, touched, peek_place};
+ghost use Rattle.mem_model.specs.Cache.{without_user, without, moved, lowest_below, pushed_up, highest_above, pushed_down, block_of, find_block, with_new, touched, peek_place, peek_bytes};
+ghost use Rattle.mem_model.specs.Images.{with_user_bytes};
 ghost use Rattle.mem_model.specs.Rows.{cache_row};
 ghost use Rattle.mem_model.specs.Told.{row_answer, place_answer};
 ghost use Rattle.mem_model.specs.Laid.{AreBetween, IsCache, IsMultiple, IsText};
@@ -12,6 +14,7 @@ ghost use Rattle.mem_model.specs.Memory.{cache_of};
 ghost use Rattle.mem_model.specs.Gaps.{gap_from, IsGap, HasSize, start_of, size_of_cache};
 ghost use Rattle.mem_model.specs.Tables.{IsTable, IsOwn};
 ghost use Rattle.mem_model.specs.Turns.{IsMove, IsRise, IsFall, IsAround, IsEvicted, IsRoom, shifted, edge};
+ghost use Rattle.mem_model.specs.contracts.cache.PlainCache.{the_row as cache_of_row};
 
 use crate::answers::{BlockRow, Place};
 use crate::cells::{CacheCell, insert_reserved};
@@ -474,6 +477,28 @@ impl PlainCache {
             Some(at) => Some(&self.cells[at]),
             None => None,
         }
+    }
+
+    // The position of the block of a user that has one.
+    fn own_position(&self, user: u32) -> usize
+        requires { IsSome (block_of self.now user) }
+        ensures { IsOwn self.now.blocks user result }
+    {
+        match position_of(&self.cells, &self.places, user) {
+            Some(at) => at,
+            None => unreachable!(),
+        }
+    }
+
+    /// The bytes of the block of a user that has one, to be written.
+    pub fn bytes_mut(&mut self, user: u32) -> &mut [u8]
+        requires { IsSome (block_of self.old user) }
+        ensures* writes_back { sem 𝓛 (Lends cache_of_row (Array byte 0) self.entry result
+            (with_user_bytes self.old user)) }
+        ensures shows { peek_bytes self.old user ≡ Some result.now }
+    {
+        let at = self.own_position(user);
+        self.cells[at].bytes_mut()
     }
 
     /// Whether a user has a block.

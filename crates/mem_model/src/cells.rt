@@ -8,10 +8,12 @@ ghost use Rattle.mem_model.specs.Zone.{free_block, used_block, with_payload};
 ghost use Rattle.mem_model.specs.Plain.{is_fit};
 ghost use Rattle.mem_model.specs.Rows.{hunk_row, zone_row, cache_row};
 ghost use Rattle.mem_model.specs.Cache.{new_block};
+ghost use Rattle.mem_model.specs.Images.{with_contents};
 ghost use Rattle.mem_model.specs.Places.{end_of};
 ghost use Rattle.mem_model.specs.Told.{row_of};
 ghost use Rattle.mem_model.specs.contracts.cells.HunkCell.{the_row as hunk_cell_row};
 ghost use Rattle.mem_model.specs.contracts.cells.ZoneCell.{the_row as zone_cell_row};
+ghost use Rattle.mem_model.specs.contracts.cells.CacheCell.{the_row as cache_cell_row};
 
 use crate::answers::BlockRow;
 use arrayvec::ArrayVec;
@@ -293,5 +295,12 @@ impl CacheCell {
         ensures { result.now ≡ self.now.bytes }
     {
         self.bytes.as_slice()
+    }
+
+    pub fn bytes_mut(&mut self) -> &mut [u8]
+        ensures* writes_back { sem 𝓛 (Lends cache_cell_row (Array byte 0) self.entry result (with_contents self.old)) }
+        ensures shows { result.now ≡ self.old.bytes }
+    {
+        self.bytes.as_mut_slice()
     }
 }

@@ -1,8 +1,9 @@
 //! A store over vectors.
 
-ghost use Rattle.std.specs.Prelude.{◌≡◌, ◌<◌, ◌≤◌, ◌^◌, ◌↔◌, IfOk, Err, IsSome, MatchOption, None, false};
+ghost use Rattle.std.specs.Prelude.{◌≡◌, ◌<◌, ◌≤◌, ◌^◌, ◌↔◌, length, IfOk, IsOkAnd, Err, IsSome, MatchOption, None, false};
 ghost use Rattle.mem_model.specs.Memory.{new_memory};
-ghost use Rattle.mem_model.specs.Hunk.{bytes_above, cut_above, cut_from, last_bytes, without_temp};
+ghost use Rattle.mem_model.specs.Hunk.{bytes_above, cut_above, cut_from, last_bytes, over, without_temp};
+ghost use Rattle.mem_model.specs.Images.{HasBytes, front_of};
 ghost use Rattle.mem_model.specs.Operations.{high_taken};
 ghost use Rattle.mem_model.specs.Answer.{Gives};
 ghost use Rattle.mem_model.specs.Told.{room_answer};
@@ -13,6 +14,7 @@ ghost use Rattle.mem_model.specs.Laid.{Laid, IsMultiple, IsText};
 use crate::answers::{
     BadMark, BlockRow, CacheError, FreeError, Place, RoomError, StoreStart, ZoneError,
 };
+use crate::builder::Builder;
 use crate::cache::PlainCache;
 use crate::cells::{HunkCell, add};
 use crate::store::Store;
@@ -81,6 +83,34 @@ fn last_of(cells: &[HunkCell]) -> usize
     ensures { IsLast cells.now result }
 {
     cells.len() - 1
+}
+
+// The first bytes of the newest block.
+fn newest_front(cells: &[HunkCell], len: usize) -> &[u8]
+    requires { HasBytes (last_bytes cells.now) len }
+    ensures { result.now ≡ front_of (last_bytes cells.now) len }
+{
+    &cells[last_of(cells)].bytes()[..len]
+}
+
+// The front of the bytes becomes that of a source.
+fn copy_front(bytes: &mut [u8], source: &[u8])
+    requires { length source.now ≤ length bytes.old }
+    ensures { bytes.new ≡ over bytes.old source.now }
+{
+    bytes[..source.len()].copy_from_slice(source);
+}
+
+// The front of the bytes becomes the image of a source.
+fn build_front<B: Builder>(bytes: &mut [u8], source: &[u8], builder: &B)
+    requires small { length source.now ≤ 2 ^ 26 }
+    requires image { IsOkAnd (B.image_of builder.now source.now) (λ image. length image ≤ length bytes.old) }
+    ensures { IfOk (B.image_of builder.now source.now) (λ image. bytes.new ≡ over bytes.old image) }
+{
+    match builder.size(source) {
+        Ok(size) => builder.build(source, &mut bytes[..size as usize]),
+        Err(_) => unreachable!(),
+    }
 }
 
 impl PlainStore {
@@ -290,6 +320,12 @@ impl Store for PlainStore {
         self.high[last].bytes_mut()
     }
 
+    fn build_low<B: Builder>(&mut self, place: Place, len: usize, builder: &B) {
+        let at = self.low_position(place.0);
+        let source = newest_front(&self.high, len);
+        build_front(self.low[at].bytes_mut(), source, builder);
+    }
+
     fn high_used(&self) -> u32 {
         self.high_used
     }
@@ -386,6 +422,19 @@ impl Store for PlainStore {
 
     fn peek_place(&self, user: u32) -> Option<Place> {
         self.cache.peek_place(user)
+    }
+
+    fn build_cache<B: Builder>(&mut self, user: u32, len: usize, builder: &B) {
+        let source = newest_front(&self.high, len);
+        build_front(self.cache.bytes_mut(user), source, builder);
+    }
+
+    fn copy_low_to_cache(&mut self, place: Place, user: u32, size: u32) {
+        let at = self.low_position(place.0);
+        copy_front(
+            self.cache.bytes_mut(user),
+            &self.low[at].bytes()[..size as usize],
+        );
     }
 
     fn cache_free(&mut self, user: u32) -> bool {

@@ -1,18 +1,21 @@
 //! One arena with a low hunk, a high hunk, a zone and a cache.
 
-ghost use Rattle.std.specs.Prelude.{◌≡◌, ℕ, ◌<◌, ◌≤◌, ◌^◌, List, Bool, Some, None, IsSome, is_some, MatchOption, slice_get};
+ghost use Rattle.std.specs.Prelude.{◌≡◌, ℕ, ◌<◌, ◌≤◌, ◌^◌, List, Bool, Some, None, IsSome, is_some, MatchOption, IsOkAnd, length, slice_get};
 ghost use Rattle.std.specs.Borrow.{sem, Lends, u8 as byte, Array};
 ghost use Rattle.mem_model.specs.Memory.{Memory, low_used, high_used, room};
 ghost use Rattle.mem_model.specs.Answer.{Answers, Gives};
 ghost use Rattle.mem_model.specs.Told.{room_answer, zone_answer, cache_answer, place_answer, free_answer, mark_answer, row_answer};
 ghost use Rattle.mem_model.specs.Rows.{low_rows, high_rows, zone_rows, cache_rows};
 ghost use Rattle.mem_model.specs.Operations.{low_alloc, low_free, high_alloc, high_mark, high_free, temp_alloc, z_alloc, z_free, cache_alloc, check, cache_free, flush};
+ghost use Rattle.mem_model.specs.Operations.{build_low, build_cache, copy_low_to_cache};
+ghost use Rattle.mem_model.specs.Images.{HasBytes, front_of};
 ghost use Rattle.mem_model.specs.Cache.{peek_bytes, peek_place};
 ghost use Rattle.mem_model.specs.Hunk.{low_bytes, with_low_bytes, temp_bytes, with_temp_bytes, without_temp};
 ghost use Rattle.mem_model.specs.Zone.{zone_bytes, with_zone_bytes, rover_place};
 ghost use Rattle.mem_model.specs.Laid.{Laid, IsText};
 
 use crate::answers::{BadMark, BlockRow, CacheError, FreeError, Place, RoomError, ZoneError};
+use crate::builder::Builder;
 
 /// A keeper of one arena. A block is known by the place of its payload. Sizes, places and marks are in bytes.
 pub trait Store: Drop {
@@ -123,6 +126,15 @@ pub trait Store: Drop {
         ensures shows { temp_bytes (state self.old) ≡ Some result.now }
         ensures laid { Laid (state self.old) };
 
+    /// Builds the image of the first `len` temporary bytes at the front of a low block above the zone, which is large
+    /// enough for it. All else stays, the bytes behind the image too.
+    fn build_low<B: Builder>(&mut self, place: Place, len: usize, builder: &B)
+        requires source { HasBytes (temp_bytes (state self.old)) len }
+        requires image { IsOkAnd (B.image_of builder.now (front_of (temp_bytes (state self.old)) len)) (λ image.
+            HasBytes (low_bytes (state self.old) place.0) (length image)) }
+        ensures gives { Answers (build_low (state self.old) place.0 len (B.image_of builder.now)) tt (state self.new) }
+        ensures laid { Laid (state self.new) };
+
     /// The sizes of the high hunk's blocks, added up, that of an active temporary block included.
     fn high_used(&self) -> u32
         ensures used { result ≡ high_used (state self.now) }
@@ -226,6 +238,23 @@ pub trait Store: Drop {
     fn peek_place(&self, user: u32) -> Option<Place>
         ensures place { place_answer result ≡ peek_place (state self.now).cache user }
         ensures laid { Laid (state self.now) };
+
+    /// Builds the image of the first `len` temporary bytes at the front of a user's block, which is large enough for it.
+    /// This is no use of the block. All else stays, the bytes behind the image too.
+    fn build_cache<B: Builder>(&mut self, user: u32, len: usize, builder: &B)
+        requires source { HasBytes (temp_bytes (state self.old)) len }
+        requires image { IsOkAnd (B.image_of builder.now (front_of (temp_bytes (state self.old)) len)) (λ image.
+            HasBytes (peek_bytes (state self.old).cache user) (length image)) }
+        ensures gives { Answers (build_cache (state self.old) user len (B.image_of builder.now)) tt (state self.new) }
+        ensures laid { Laid (state self.new) };
+
+    /// Copies the first `size` bytes of a low block above the zone to the front of a user's block, where both have as
+    /// many. This is no use of the block. All else stays, the bytes behind the copy too.
+    fn copy_low_to_cache(&mut self, place: Place, user: u32, size: u32)
+        requires low { HasBytes (low_bytes (state self.old) place.0) size }
+        requires user { HasBytes (peek_bytes (state self.old).cache user) size }
+        ensures gives { Answers (copy_low_to_cache (state self.old) place.0 user size) tt (state self.new) }
+        ensures laid { Laid (state self.new) };
 
     /// Frees a user's block, and answers whether there was one.
     fn cache_free(&mut self, user: u32) -> bool

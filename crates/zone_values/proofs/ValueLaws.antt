@@ -12,12 +12,12 @@ use Rattle.mem_model.specs.Hunk.{over}
 use Rattle.mem_model.specs.Zone.{zone_bytes, with_zone_bytes}
 use Rattle.mem_model.specs.Apart.{NoneIs, AreUsed}
 use Rattle.mem_model.specs.Operations.{z_alloc, z_free}
-use Rattle.mem_model.proofs.Laying.{length-over}
+use Rattle.mem_model.proofs.Laying.{length-over, over_front}
 use Rattle.mem_model.proofs.ZoneLaying.{Laid-z_alloc, Laid-z_free, Laid-with_zone_bytes}
 use Rattle.mem_model.proofs.ZoneLaws.{zone_bytes-z_alloc, zone_bytes-new, zone_place_apart, zone_bytes-z_free, zone_bytes-written, zone_bytes-elsewhere, z_alloc-refusal, NoneIs-z_new}
 use Rattle.mem_model.proofs.Untouched.{low-z_alloc, high-z_alloc, temp-z_alloc, size-z_alloc, low-z_free, high-z_free, temp-z_free, size-z_free}
 use Rattle.zone_values.specs.Values.{value_at, put_value, value_put, replace_value, old_freed, with_zero}
-use Rattle.zone_values.proofs.Writing.{over_front, with_zone_bytes-over}
+use Rattle.zone_values.proofs.Writing.{with_zone_bytes-over}
 
 -- What is so of the memory that the zone gave, and stays so by a write, is so of the memory with the value.
 put_steps : (P : Memory → Type 0) (value : List ℕ) (answer : Result ℕ ℕ) (m : Memory) → ((place : ℕ) → answer ≡ Ok place → P (with_zone_bytes m place (with_zero value))) → P m → P (value_put value answer m)

@@ -6,13 +6,8 @@ use Rattle.mem_model.specs.Blocks.{ZoneBlock}
 use Rattle.mem_model.specs.Memory.{Memory}
 use Rattle.mem_model.specs.Hunk.{over}
 use Rattle.mem_model.specs.Zone.{zone_bytes, with_zone_bytes, used_bytes, used_bytes_from, with_payload, with_payload_from}
-use Rattle.mem_model.proofs.Laying.{over_same, length-over}
+use Rattle.mem_model.proofs.Laying.{over_front, over_same, length-over}
 use Rattle.zone_values.specs.Values.{with_zero}
-
--- what is no longer than the old bytes stands before their rest
-pub over_front : (old bytes : List ℕ) → length bytes ≤ length old → over old bytes ≡ bytes ++ drop (length bytes) old
-unfolding over
-over_front old bytes short = take_all (length old) (bytes ++ drop (length bytes) old) (omega (arith, length-append bytes (drop (length bytes) old), length-drop (length bytes) old))
 
 -- the value, and then its zero
 pub written_over : (old value : List ℕ) → length value < length old → slice_set (value ++ drop (length value) old) (length value) 0 ≡ over old (with_zero value)
