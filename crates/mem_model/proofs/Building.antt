@@ -14,16 +14,10 @@ use Rattle.mem_model.specs.Images.{HasBytes, front_of, with_cache_bytes, with_us
 use Rattle.mem_model.specs.Operations.{build_low, build_cache, copy_low_to_cache}
 use Rattle.mem_model.proofs.CacheBytes.{with_user_bytes-over}
 use Rattle.mem_model.proofs.Laying.{length-over, over_same}
+use Rattle.mem_model.proofs.Laws.{some_has}
 use Rattle.mem_model.proofs.Newest.{mark_of, temp_bytes-small, temp_bytes-some}
 
--- A block that has so many bytes is there, and they are as many.
-pub some_has : (block : Option (List ℕ)) (n : ℕ) → HasBytes block n → IsSome block
-some_has None n h = absurd h
-some_has (Some bytes) n h = refl
-
-pub has_fits : (block : Option (List ℕ)) (n : ℕ) (bytes : List ℕ) → HasBytes block n → block ≡ Some bytes → n ≤ length bytes
-has_fits block n bytes h e = rw e at h
-
+-- what is to become of an image is there
 pub some_image : {F : Type 0} (r : Result (List ℕ) F) (block : Option (List ℕ)) → IsOkAnd r (λ image. HasBytes block (length image)) → IsSome block
 some_image (Ok image) block h = some_has block (length image) h
 some_image (Err fault) block h = absurd h

@@ -16,8 +16,7 @@ use Rattle.mem_model.specs.Tables.{IsTable, IsOwn}
 use Rattle.mem_model.specs.Laid.{Laid, AreBetween, IsCache, IsCacheBlock, count_in, users_of}
 use Rattle.mem_model.proofs.CacheBlocks.{find-some}
 use Rattle.mem_model.proofs.CacheEdits.{counted_at}
-use Rattle.mem_model.proofs.CacheLaws.{Laid-with_cache}
-use Rattle.mem_model.proofs.Laying.{length-over, over_same}
+use Rattle.mem_model.proofs.Laying.{Laid-with_cache, length-over, over_same}
 
 -- Only bytes change: each block stays where it is, as large as it is and its user's.
 users_of-with : (user : ℕ) (blocks : List CacheBlock) (bytes : List ℕ) → users_of (with_contents_of user blocks bytes) ≡ users_of blocks
@@ -89,7 +88,7 @@ same_place : (o : Option CacheBlock) (bytes : List ℕ) → option_map (λ (b : 
 same_place None bytes = refl
 same_place (Some b) bytes = refl
 
-placed-with : (user other : ℕ) (blocks : List CacheBlock) (bytes : List ℕ) → option_map (λ (b : CacheBlock). b.place) (find_block other (with_contents_of user blocks bytes)) ≡ option_map (λ (b : CacheBlock). b.place) (find_block other blocks)
+pub placed-with : (user other : ℕ) (blocks : List CacheBlock) (bytes : List ℕ) → option_map (λ (b : CacheBlock). b.place) (find_block other (with_contents_of user blocks bytes)) ≡ option_map (λ (b : CacheBlock). b.place) (find_block other blocks)
 placed-with user other blocks bytes =
     elim (eqb_tells other user) [
       | inl at ↦

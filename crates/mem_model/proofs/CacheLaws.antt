@@ -10,19 +10,22 @@ use Rattle.mem_model.specs.Event.{Event, Shortage, FreeRefusal, CacheRefusal.Occ
 use Rattle.mem_model.specs.Blocks.{HunkBlock, CacheBlock}
 use Rattle.mem_model.specs.Memory.{Memory, Cache, size_of, low_used, high_used, high_start, room}
 use Rattle.mem_model.specs.Places.{hunk_need, cache_need, round_up}
-use Rattle.mem_model.specs.Hunk.{hunk_block, with_low, with_high, without_temp, temp_freed, cut_from, cut_above, low_bytes, bytes_above, temp_bytes, temp_bytes_of}
+use Rattle.mem_model.specs.Hunk.{hunk_block, with_low, with_high, without_temp, temp_freed, cut_from, cut_above, low_bytes, with_low_bytes, bytes_above, temp_bytes, temp_bytes_of}
 use Rattle.mem_model.specs.Zone.{zone_bytes, used_bytes_from}
 use Rattle.mem_model.specs.Cache.{pushed_up, pushed_down, peek_bytes, without, touched, block_of, with_new, new_block, without_user}
 use Rattle.mem_model.specs.Answer.{Answered, Answers, Gives, with_event}
-use Rattle.mem_model.specs.Operations.{low_alloc, low_free, low_cut, high_taken, high_alloc, high_free, high_cut, high_mark, temp_alloc, z_alloc, z_free, cache_alloc, check, cache_free, flush, shortage}
+use Rattle.mem_model.specs.Operations.{low_alloc, low_free, low_cut, high_taken, high_alloc, high_free, high_cut, high_mark, temp_alloc, z_alloc, z_free, cache_alloc, check, cache_free, flush, build_low, build_cache, copy_low_to_cache, shortage}
+use Rattle.mem_model.specs.Images.{front_of}
 use Rattle.mem_model.specs.Laid.{Laid, IsText, IsHunkBlock, IsCache, IsCacheBlock, count_in, users_of}
 use Rattle.mem_model.specs.Keeps.{held, unplaced, IsNot, KeepsUsers, beside_low, beside_high, beside_zone, beside_cache}
 use Rattle.mem_model.proofs.CacheBlocks.{find-none, find-some, count-gone, count-stays}
+use Rattle.mem_model.proofs.CacheImages.{Laid-build_cache, Laid-copy_low_to_cache, beside-build_cache, beside-copy_low_to_cache, has-build_cache, has-copy_low_to_cache, held-build_cache, held-copy_low_to_cache, keeps-build_cache, keeps-copy_low_to_cache, peek_bytes-build_cache, peek_bytes-built, peek_bytes-copied, peek_bytes-copy_low_to_cache, peek_place-build_cache, peek_place-copy_low_to_cache, recency-build_cache, recency-copy_low_to_cache}
 use Rattle.mem_model.proofs.CacheMoves.{Keeps, later-pushed_up, later-pushed_down, later-without}
 use Rattle.mem_model.proofs.CacheNew.{grown-with_new, IsGrown}
-use Rattle.mem_model.proofs.Laying.{size_of-append, all-append, low_blocks-append, first_size-append, IsHunkBlock-hunk_block, Laid-with_fewer}
+use Rattle.mem_model.proofs.Laws.{has_bytes}
+use Rattle.mem_model.proofs.Laying.{size_of-append, all-append, low_blocks-append, first_size-append, IsHunkBlock-hunk_block, Laid-with_cache, Laid-with_fewer}
 use Rattle.mem_model.proofs.HighLaying.{Laid-with_fewer_high, Laid-with_temp, temp-without_temp}
-use Rattle.mem_model.proofs.Untouched.{left-with_event, left-either, left-z_alloc, left-z_free}
+use Rattle.mem_model.proofs.Untouched.{after_image, left-with_event, left-either, left-z_alloc, left-z_free}
 use Rattle.mem_model.proofs.ZoneLaying.{Laid-with_event}
 
 -- KeepsUsers is a relation that goes from step to step.
@@ -206,18 +209,6 @@ unfolding high_mark
 sound-high_mark m laid = sound-noted _ (sound-without_temp m laid)
 
 -- The cache's own operations.
-pub Laid-with_cache : (m : Memory) (c : Cache) → Laid m → IsCache c m.users (low_used m) (high_start m) → Laid (record m { cache = c })
-Laid-with_cache m c laid is = record {
-  small = laid.small;
-  inside = laid.inside;
-  low = laid.low;
-  high = laid.high;
-  temp = laid.temp;
-  zone = laid.zone;
-  cache = is;
-  events = laid.events;
-}
-
 IsCacheBlock-new_block : (users size user place : ℕ) (name : List ℕ) → user < users → 0 < size → IsText name → IsCacheBlock users (new_block place (cache_need size) user name)
 IsCacheBlock-new_block users size user place name known some text = record {
   least = omega arith;
@@ -468,6 +459,26 @@ pub beside-flush : (m : Memory) → beside_cache (flush m).after ≡ beside_cach
 unfolding flush
 beside-flush m = left-with_event beside_cache (λ n events. refl) _ _
 
+-- A building in a low block leaves the cache as it is, too.
+beside-with_low_bytes : (m : Memory) (place : ℕ) (bytes : List ℕ) → beside_low (with_low_bytes m place bytes) ≡ beside_low m
+unfolding with_low_bytes
+beside-with_low_bytes m place bytes = refl
+
+cache-with_low_bytes : (m : Memory) (place : ℕ) (bytes : List ℕ) → (with_low_bytes m place bytes).cache ≡ m.cache
+unfolding with_low_bytes
+cache-with_low_bytes m place bytes = refl
+
+pub beside-build_low : {F : Type 0} (m : Memory) (place len : ℕ) (image_of : List ℕ → Result (List ℕ) F) → beside_low (build_low m place len image_of).after ≡ beside_low m
+unfolding build_low
+beside-build_low m place len image_of = after_image (λ n. beside_low n ≡ beside_low m) m (with_low_bytes m place) (image_of (front_of (temp_bytes m) len)) refl (λ image. beside-with_low_bytes m place image)
+
+pub cache-build_low : {F : Type 0} (m : Memory) (place len : ℕ) (image_of : List ℕ → Result (List ℕ) F) → (build_low m place len image_of).after.cache ≡ m.cache
+unfolding build_low
+cache-build_low m place len image_of = after_image (λ n. n.cache ≡ m.cache) m (with_low_bytes m place) (image_of (front_of (temp_bytes m) len)) refl (λ image. cache-with_low_bytes m place image)
+
+pub keeps-build_low : {F : Type 0} (m : Memory) (place len : ℕ) (image_of : List ℕ → Result (List ℕ) F) → KeepsUsers None m (build_low m place len image_of).after
+keeps-build_low m place len image_of = keeps_users_same None m _ (cache-build_low m place len image_of)
+
 -- What that says of bytes, for any operation of the part.
 pub low_bytes-beside_high : (m n : Memory) (place : ℕ) → beside_high n ≡ beside_high m → low_bytes n place ≡ low_bytes m place
 unfolding low_bytes
@@ -536,6 +547,15 @@ users-cache_free m user = ap (λ (x : Memory). x.users) (beside-cache_free m use
 pub users-flush : (m : Memory) → (flush m).after.users ≡ m.users
 users-flush m = ap (λ (x : Memory). x.users) (beside-flush m)
 
+pub users-build_low : {F : Type 0} (m : Memory) (place len : ℕ) (image_of : List ℕ → Result (List ℕ) F) → (build_low m place len image_of).after.users ≡ m.users
+users-build_low m place len image_of = ap (λ (x : Memory). x.users) (beside-build_low m place len image_of)
+
+pub users-build_cache : {F : Type 0} (m : Memory) (user len : ℕ) (image_of : List ℕ → Result (List ℕ) F) → (build_cache m user len image_of).after.users ≡ m.users
+users-build_cache m user len image_of = ap (λ (x : Memory). x.users) (beside-build_cache m user len image_of)
+
+pub users-copy_low_to_cache : (m : Memory) (place user size : ℕ) → (copy_low_to_cache m place user size).after.users ≡ m.users
+users-copy_low_to_cache m place user size = ap (λ (x : Memory). x.users) (beside-copy_low_to_cache m place user size)
+
 -- What a call leaves, whether or not it ran out of memory.
 pub after_gives : {A : Type 0} (P : Memory → Type 0) (given : Answered A) (frugal : Bool) (left new : Memory) (reply : Option A) → Gives given frugal left reply new → P given.after → P left → P new
 after_gives P given frugal left new None g p q = subst P (sym g.after) q
@@ -569,4 +589,4 @@ keeps-without_temp m laid = (sound-without_temp m laid).keeps
 
 -- For callers, as `#[tactic(auto, using(mem_model::proofs::CacheLaws::cache_laws))]` or one by one: the number of users,
 -- what users hold through calls that may move their blocks, and the bytes of each part through calls of another.
-pub ruleset cache_laws = (users-low_alloc, users-low_free, users-high_alloc, users-high_mark, users-high_free, users-temp_alloc, users-cache_alloc, users-check, users-cache_free, users-flush, held-new, peek_bytes-held, peek_bytes-kept, keeps_users_all, keeps_users_more, keeps_answer, keeps-without_temp, keeps-low_alloc, keeps-low_free, keeps-high_alloc, keeps-high_mark, keeps-high_free, keeps-temp_alloc, keeps-z_alloc, keeps-z_free, keeps-cache_alloc, keeps-check, keeps-cache_free, keeps-flush, beside-low_alloc, beside-low_free, beside-high_alloc, beside-high_mark, beside-high_free, beside-temp_alloc, beside-z_alloc, beside-z_free, beside-cache_alloc, beside-check, beside-cache_free, beside-flush, low_bytes-beside_high, low_bytes-beside_zone, low_bytes-beside_cache, temp_bytes-beside_low, temp_bytes-beside_zone, temp_bytes-beside_cache, zone_bytes-beside_low, zone_bytes-beside_high, zone_bytes-beside_cache)
+pub ruleset cache_laws = (users-low_alloc, users-low_free, users-high_alloc, users-high_mark, users-high_free, users-temp_alloc, users-cache_alloc, users-check, users-cache_free, users-flush, held-new, peek_bytes-held, peek_bytes-kept, keeps_users_all, keeps_users_more, keeps_answer, keeps-without_temp, keeps-low_alloc, keeps-low_free, keeps-high_alloc, keeps-high_mark, keeps-high_free, keeps-temp_alloc, keeps-z_alloc, keeps-z_free, keeps-cache_alloc, keeps-check, keeps-cache_free, keeps-flush, beside-low_alloc, beside-low_free, beside-high_alloc, beside-high_mark, beside-high_free, beside-temp_alloc, beside-z_alloc, beside-z_free, beside-cache_alloc, beside-check, beside-cache_free, beside-flush, low_bytes-beside_high, low_bytes-beside_zone, low_bytes-beside_cache, temp_bytes-beside_low, temp_bytes-beside_zone, temp_bytes-beside_cache, zone_bytes-beside_low, zone_bytes-beside_high, zone_bytes-beside_cache, users-build_low, users-build_cache, users-copy_low_to_cache, keeps-build_low, keeps-build_cache, keeps-copy_low_to_cache, cache-build_low, beside-build_low, beside-build_cache, beside-copy_low_to_cache, Laid-build_cache, Laid-copy_low_to_cache, has_bytes, peek_bytes-built, peek_bytes-copied, held-build_cache, held-copy_low_to_cache, peek_bytes-build_cache, peek_bytes-copy_low_to_cache, peek_place-build_cache, peek_place-copy_low_to_cache, has-build_cache, has-copy_low_to_cache, recency-build_cache, recency-copy_low_to_cache)

@@ -1,6 +1,6 @@
 -- Laws of the operations, over the definitions alone: what callers of a store need.
-use Rattle.std.proofs.Common.{◌≡◌, ◌≢◌, ℕ, ◌+◌, ◌-◌, ◌≤◌, List, [], ◌∷◌, ◌++◌, Option, Some, None, Result, Ok, Err, Bool, true, false, ltb, eqb, cond, length, refl, sym, ap, ◌∙◌, arith, replicate, ◌⊎◌, inl, inr, if◌then◌else◌, is_ok}
-use Rattle.std.specs.Prelude.{codes}
+use Rattle.std.proofs.Common.{◌≡◌, ◌≢◌, ℕ, ◌+◌, ◌-◌, ◌≤◌, List, [], ◌∷◌, ◌++◌, Option, Some, None, Result, Ok, Err, Bool, true, false, ltb, eqb, cond, length, drop, refl, sym, ap, ◌∙◌, arith, replicate, ◌⊎◌, inl, inr, if◌then◌else◌, is_ok}
+use Rattle.std.specs.Prelude.{IsSome, codes}
 use Rattle.std.specs.Option.{option_map}
 use Rattle.std.specs.List.{AllByRecursion}
 use Rattle.std.proofs.lemmas.Bool.Decides.{eqb_tells}
@@ -13,11 +13,13 @@ use Rattle.mem_model.specs.Places.{hunk_need, round_up}
 use Rattle.mem_model.specs.Hunk.{hunk_block, with_low, with_bytes, over, bytes_from, with_bytes_from, bytes_above, with_bytes_above, cut_from, cut_above, low_bytes, with_low_bytes, with_last_bytes, temp_bytes, temp_bytes_of, with_temp_bytes, with_temp_bytes_of, without_temp}
 use Rattle.mem_model.specs.Answer.{Answered, noted, with_event}
 use Rattle.mem_model.specs.Laid.{Laid, IsHunkBlock, AreLowBlocks}
-use Rattle.mem_model.specs.Operations.{low_alloc, low_free, low_cut, temp_alloc, shortage}
-use Rattle.mem_model.proofs.Laying.{over_same, Laid-with_low_bytes}
+use Rattle.mem_model.specs.Operations.{low_alloc, low_free, low_cut, temp_alloc, build_low, shortage}
+use Rattle.mem_model.specs.Images.{HasBytes, front_of}
+use Rattle.mem_model.proofs.Laying.{over_front, over_same, length-over, size_of-with_bytes_above, Laid-with_low_bytes}
 use Rattle.mem_model.proofs.Cuts.{cut_whole}
 use Rattle.mem_model.proofs.Calling.{high-high_taken}
-use Rattle.mem_model.proofs.Newest.{last_bytes-append, last_bytes-written, Laid-with_temp_bytes}
+use Rattle.mem_model.proofs.Newest.{last_bytes-append, last_bytes-written, temp_bytes-small, Laid-with_temp_bytes}
+use Rattle.mem_model.proofs.Untouched.{after_image}
 
 -- an event is no other part of the memory
 low-with_event : (m : Memory) (event : Event) → (with_event m event).low ≡ m.low
@@ -94,22 +96,26 @@ length-new m size place name bytes laid h there =
     let same : replicate (round_up size 16) 0 ≡ bytes = cc in
     sym (ap length same) ∙ length-replicate (round_up size 16) 0
 
-written_from : (start : ℕ) (blocks : List HunkBlock) (place : ℕ) (old bytes : List ℕ) → bytes_from start blocks place ≡ Some old → bytes_from start (with_bytes_from start blocks place bytes) place ≡ Some (over old bytes)
-written_from start [] place old bytes h = absurd (cc)
-written_from start (b ∷ bs) place old bytes h =
+over_from : (start : ℕ) (blocks : List HunkBlock) (place : ℕ) (bytes : List ℕ) → bytes_from start (with_bytes_from start blocks place bytes) place ≡ option_map (λ old. over old bytes) (bytes_from start blocks place)
+over_from start [] place bytes = refl
+over_from start (b ∷ bs) place bytes =
     elim (eqb_tells (start + 16) place) [
-      | inl at ↦ rw (at.0, at.0) (let here : Some b.bytes ≡ Some old = rw at.0 at h in let same : b.bytes ≡ old = cc in ap (λ w. Some (over w bytes)) same)
-      | inr off ↦ rw (off.0, off.0) (let there : bytes_from (start + b.size) bs place ≡ Some old = rw off.0 at h in written_from (start + b.size) bs place old bytes there)
+      | inl at ↦ rw (at.0, at.0) refl
+      | inr off ↦ rw (off.0, off.0) (over_from (start + b.size) bs place bytes)
     ]
 
-written_above : (low : List HunkBlock) (place : ℕ) (old bytes : List ℕ) → bytes_above low place ≡ Some old → bytes_above (with_bytes_above low place bytes) place ≡ Some (over old bytes)
-written_above [] place old bytes h = absurd (cc)
-written_above (zone ∷ blocks) place old bytes h = written_from zone.size blocks place old bytes h
+over_above : (low : List HunkBlock) (place : ℕ) (bytes : List ℕ) → bytes_above (with_bytes_above low place bytes) place ≡ option_map (λ old. over old bytes) (bytes_above low place)
+over_above [] place bytes = refl
+over_above (zone ∷ blocks) place bytes = over_from zone.size blocks place bytes
+
+-- the bytes of a low block after a write into it
+low_bytes-over : (m : Memory) (place : ℕ) (bytes : List ℕ) → low_bytes (with_low_bytes m place bytes) place ≡ option_map (λ old. over old bytes) (low_bytes m place)
+unfolding low_bytes with_low_bytes
+low_bytes-over m place bytes = over_above m.low place bytes
 
 -- What is written is there.
 pub low_bytes-written : (m : Memory) (place : ℕ) (old bytes : List ℕ) → low_bytes m place ≡ Some old → length bytes ≡ length old → low_bytes (with_low_bytes m place bytes) place ≡ Some bytes
-unfolding low_bytes with_low_bytes
-low_bytes-written m place old bytes h same = written_above m.low place old bytes h ∙ ap Some (over_same old bytes same)
+low_bytes-written m place old bytes h same = low_bytes-over m place bytes ∙ ap (option_map (λ had. over had bytes)) h ∙ ap Some (over_same old bytes same)
 
 elsewhere_from : (start : ℕ) (blocks : List HunkBlock) (place other : ℕ) (bytes : List ℕ) → other ≢ place → bytes_from start (with_bytes_from start blocks place bytes) other ≡ bytes_from start blocks other
 elsewhere_from start [] place other bytes h = refl
@@ -258,5 +264,58 @@ pub temp_bytes-written : (m : Memory) (old bytes : List ℕ) → temp_bytes m �
 unfolding temp_bytes with_temp_bytes
 temp_bytes-written m old bytes h same = written_temp m m.temp old bytes refl h ∙ ap Some (over_same old bytes same)
 
+-- A block that has so many bytes is there, and one that is there with so many has them.
+pub some_has : (block : Option (List ℕ)) (n : ℕ) → HasBytes block n → IsSome block
+some_has None n h = absurd h
+some_has (Some bytes) n h = refl
+
+pub has_fits : (block : Option (List ℕ)) (n : ℕ) (bytes : List ℕ) → HasBytes block n → block ≡ Some bytes → n ≤ length bytes
+has_fits block n bytes h e = rw e at h
+
+pub has_bytes : (block : Option (List ℕ)) (n : ℕ) (bytes : List ℕ) → block ≡ Some bytes → n ≤ length bytes → HasBytes block n
+has_bytes block n bytes e fits = rw e fits
+
+pub has_over : (block old : Option (List ℕ)) (n : ℕ) (bytes : List ℕ) → block ≡ option_map (λ had. over had bytes) old → HasBytes old n → HasBytes block n
+has_over block None n bytes e h = absurd h
+has_over block (Some had) n bytes e h = has_bytes block n (over had bytes) e (omega (arith, h, length-over had bytes))
+
+-- A building in a low block keeps a memory laid out.
+pub Laid-build_low : {F : Type 0} (m : Memory) (place len : ℕ) (image_of : List ℕ → Result (List ℕ) F) → Laid m → Laid (build_low m place len image_of).after
+unfolding build_low
+Laid-build_low m place len image_of laid = after_image Laid m (with_low_bytes m place) (image_of (front_of (temp_bytes m) len)) laid (λ image. Laid-with_low_bytes m place image laid)
+
+-- The block begins with the image, and what stood behind it stays.
+pub low_bytes-built : {F : Type 0} (m : Memory) (place len : ℕ) (image_of : List ℕ → Result (List ℕ) F) (old image : List ℕ) → low_bytes m place ≡ Some old → image_of (front_of (temp_bytes m) len) ≡ Ok image → length image ≤ length old →
+    low_bytes (build_low m place len image_of).after place ≡ Some (image ++ drop (length image) old)
+unfolding build_low
+low_bytes-built m place len image_of old image here made fits =
+    rw made (low_bytes-over m place image ∙ ap (option_map (λ bytes. over bytes image)) here ∙ ap Some (over_front old image fits))
+
+-- Each other low block has the bytes that it had, and each is as long as it was.
+pub low_bytes-build_low : {F : Type 0} (m : Memory) (place other len : ℕ) (image_of : List ℕ → Result (List ℕ) F) → other ≢ place → low_bytes (build_low m place len image_of).after other ≡ low_bytes m other
+unfolding build_low
+low_bytes-build_low m place other len image_of apart =
+    after_image (λ n. low_bytes n other ≡ low_bytes m other) m (with_low_bytes m place) (image_of (front_of (temp_bytes m) len)) refl (λ image. low_bytes-elsewhere m place other image apart)
+
+pub has-build_low : {F : Type 0} (m : Memory) (place other len n : ℕ) (image_of : List ℕ → Result (List ℕ) F) → HasBytes (low_bytes m other) n → HasBytes (low_bytes (build_low m place len image_of).after other) n
+unfolding build_low
+has-build_low m place other len n image_of h =
+    elim (eqb_tells other place) [
+      | inl at ↦ after_image (λ k. HasBytes (low_bytes k other) n) m (with_low_bytes m place) (image_of (front_of (temp_bytes m) len)) h (λ image.
+        has_over _ (low_bytes m other) n image (ap (low_bytes (with_low_bytes m place image)) at.1 ∙ low_bytes-over m place image ∙ ap (λ p. option_map (λ old. over old image) (low_bytes m p)) (sym at.1)) h)
+      | inr off ↦ rw (low_bytes-build_low m place other len image_of off.1) h
+    ]
+
+-- So have the temporary bytes, and the low hunk is as long as it was.
+pub temp_bytes-build_low : {F : Type 0} (m : Memory) (place len : ℕ) (image_of : List ℕ → Result (List ℕ) F) → temp_bytes (build_low m place len image_of).after ≡ temp_bytes m
+unfolding build_low temp_bytes with_low_bytes
+temp_bytes-build_low m place len image_of =
+    after_image (λ n. temp_bytes_of n.high n.temp ≡ temp_bytes_of m.high m.temp) m (with_low_bytes m place) (image_of (front_of (temp_bytes m) len)) refl (λ image. refl)
+
+pub low_used-build_low : {F : Type 0} (m : Memory) (place len : ℕ) (image_of : List ℕ → Result (List ℕ) F) → low_used (build_low m place len image_of).after ≡ low_used m
+unfolding build_low with_low_bytes
+low_used-build_low m place len image_of =
+    after_image (λ n. low_used n ≡ low_used m) m (with_low_bytes m place) (image_of (front_of (temp_bytes m) len)) refl (λ image. size_of-with_bytes_above m.low place image)
+
 -- for callers: `#[tactic(auto, using(mem_model::proofs::Laws::store_laws))]`
-pub ruleset store_laws = (low_place_apart, low_bytes-low_alloc, low_bytes-new, length-new, low_bytes-written, low_bytes-elsewhere, low_free-low_alloc, low-low_free, low_bytes-low_free, Laid-with_low_bytes, temp_bytes-new, length-temp, temp_bytes-written, Laid-with_temp_bytes)
+pub ruleset store_laws = (low_place_apart, low_bytes-low_alloc, low_bytes-new, length-new, low_bytes-written, low_bytes-elsewhere, low_free-low_alloc, low-low_free, low_bytes-low_free, Laid-with_low_bytes, temp_bytes-new, length-temp, temp_bytes-written, Laid-with_temp_bytes, temp_bytes-small, has_bytes, Laid-build_low, low_bytes-built, low_bytes-build_low, has-build_low, temp_bytes-build_low, low_used-build_low)

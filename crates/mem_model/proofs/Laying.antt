@@ -5,10 +5,10 @@ use Rattle.std.proofs.lemmas.List.{drop_all, take_all, take_at, length-replicate
 use Rattle.std.proofs.lemmas.List.Elements.{All-take}
 use Rattle.std.specs.List.{AllByRecursion}
 use Rattle.mem_model.specs.Blocks.{HunkBlock, CacheBlock}
-use Rattle.mem_model.specs.Memory.{Memory, new_memory, size_of, low_used, high_start}
+use Rattle.mem_model.specs.Memory.{Memory, Cache, new_memory, size_of, low_used, high_start}
 use Rattle.mem_model.specs.Places.{hunk_need}
 use Rattle.mem_model.specs.Hunk.{hunk_block, over, with_bytes, with_bytes_from, with_bytes_above, with_low_bytes}
-use Rattle.mem_model.specs.Laid.{Laid, IsMultiple, IsText, IsHunkBlock, AreLowBlocks, AreBetween, first_size}
+use Rattle.mem_model.specs.Laid.{Laid, IsMultiple, IsText, IsHunkBlock, AreLowBlocks, AreBetween, IsCache, first_size}
 
 pub size_of-append : (xs ys : List HunkBlock) → size_of (xs ++ ys) ≡ size_of xs + size_of ys
 size_of-append [] ys = omega arith
@@ -151,5 +151,18 @@ Laid-with_fewer m n some laid = record {
     one_each = laid.cache.one_each;
     recency = laid.cache.recency;
   };
+  events = laid.events;
+}
+
+-- a memory is laid out with another cache in order between its hunks
+pub Laid-with_cache : (m : Memory) (c : Cache) → Laid m → IsCache c m.users (low_used m) (high_start m) → Laid (record m { cache = c })
+Laid-with_cache m c laid is = record {
+  small = laid.small;
+  inside = laid.inside;
+  low = laid.low;
+  high = laid.high;
+  temp = laid.temp;
+  zone = laid.zone;
+  cache = is;
   events = laid.events;
 }

@@ -30,6 +30,7 @@ pub mod ZoneBytes
 pub mod Untouched
 pub mod ZoneApart
 pub mod ZoneLaws
-pub mod CacheLaws
 pub mod CacheBytes
+pub mod CacheImages
+pub mod CacheLaws
 pub mod Building

@@ -1,5 +1,5 @@
 -- What a call leaves of the parts of a memory that it is not about.
-use Rattle.std.proofs.Common.{◌≡◌, ℕ, List, [], ◌∷◌, ◌++◌, Option, Some, None, Ok, Err, Bool, true, false, ltb, cond, length, refl, ap, ◌∙◌, if◌then◌else◌}
+use Rattle.std.proofs.Common.{◌≡◌, ℕ, List, [], ◌∷◌, ◌++◌, Option, Some, None, Result, Ok, Err, Bool, true, false, ltb, cond, length, refl, ap, ◌∙◌, if◌then◌else◌}
 use Rattle.std.specs.Prelude.{slice_get, codes}
 use Rattle.mem_model.specs.Blocks.{HunkBlock, ZoneBlock}
 use Rattle.mem_model.specs.Event.{Event, FreeRefusal.AlreadyFree}
@@ -7,8 +7,9 @@ use Rattle.mem_model.specs.Memory.{Memory, Zone, room}
 use Rattle.mem_model.specs.Places.{hunk_need, zone_need, round_up}
 use Rattle.mem_model.specs.Hunk.{with_low, with_high, without_temp, temp_freed, cut_from, cut_above, low_bytes, with_low_bytes, bytes_above, temp_bytes, temp_bytes_of, with_temp_bytes, with_temp_bytes_of}
 use Rattle.mem_model.specs.Zone.{with_free, chosen, position_of, used_bytes_from, zone_bytes, with_zone_bytes}
+use Rattle.mem_model.specs.Images.{front_of, with_image}
 use Rattle.mem_model.specs.Answer.{Answered, with_event}
-use Rattle.mem_model.specs.Operations.{low_alloc, low_free, low_cut, high_taken, high_alloc, high_free, high_cut, high_mark, temp_alloc, z_alloc, z_taken, z_free, z_freed, z_freed_at}
+use Rattle.mem_model.specs.Operations.{low_alloc, low_free, low_cut, high_taken, high_alloc, high_free, high_cut, high_mark, temp_alloc, build_low, z_alloc, z_taken, z_free, z_freed, z_freed_at}
 
 -- no part but the events tells whether one was kept
 pub left-with_event : {X : Type 0} (f : Memory → X) → ((n : Memory) (events : List Event) → f (record n { events = events }) ≡ f n) → (m : Memory) (event : Event) → f (with_event m event) ≡ f m
@@ -21,6 +22,11 @@ left-with_event f h m event = elim (ltb (length m.events) m.event_room) as (λ t
 pub left-either : {A X : Type 0} (f : Memory → X) (t : Bool) (a b : Answered A) (x : X) → f a.after ≡ x → f b.after ≡ x → f (if t then a else b).after ≡ x
 left-either f true a b x p q = p
 left-either f false a b x p q = q
+
+-- what holds of a memory and of it with any image written holds of what the writing of an image leaves
+pub after_image : {F : Type 0} (P : Memory → Type 0) (m : Memory) (write : List ℕ → Memory) (r : Result (List ℕ) F) → P m → ((image : List ℕ) → P (write image)) → P (with_image m write r)
+after_image P m write (Ok image) stays writes = writes image
+after_image P m write (Err fault) stays writes = stays
 
 -- A part of a memory that tells nothing of the zone and of the events is left by the zone's calls.
 abbrev pub IsBesideZone : {X : Type 0} → (Memory → X) → Type 0
@@ -162,6 +168,10 @@ pub zone-with_low_bytes : (m : Memory) (place : ℕ) (bytes : List ℕ) → (wit
 unfolding with_low_bytes
 zone-with_low_bytes m place bytes = refl
 
+pub zone-build_low : {F : Type 0} (m : Memory) (place len : ℕ) (image_of : List ℕ → Result (List ℕ) F) → (build_low m place len image_of).after.zone ≡ m.zone
+unfolding build_low
+zone-build_low m place len image_of = after_image (λ n. n.zone ≡ m.zone) m (with_low_bytes m place) (image_of (front_of (temp_bytes m) len)) refl (λ image. zone-with_low_bytes m place image)
+
 zone-with_temp_of : (m : Memory) (bytes : List ℕ) (temp : Option ℕ) → (with_temp_bytes_of m bytes temp).zone ≡ m.zone
 zone-with_temp_of m bytes None = refl
 zone-with_temp_of m bytes (Some mark) = refl
@@ -201,3 +211,6 @@ zone_bytes-with_low_bytes m other place bytes = zone_bytes-same _ m place (zone-
 
 pub zone_bytes-with_temp_bytes : (m : Memory) (place : ℕ) (bytes : List ℕ) → zone_bytes (with_temp_bytes m bytes) place ≡ zone_bytes m place
 zone_bytes-with_temp_bytes m place bytes = zone_bytes-same _ m place (zone-with_temp_bytes m bytes)
+
+pub zone_bytes-build_low : {F : Type 0} (m : Memory) (other len place : ℕ) (image_of : List ℕ → Result (List ℕ) F) → zone_bytes (build_low m other len image_of).after place ≡ zone_bytes m place
+zone_bytes-build_low m other len place image_of = zone_bytes-same _ m place (zone-build_low m other len image_of)

@@ -17,7 +17,7 @@ use Rattle.mem_model.specs.Laid.{Laid, IsZone, IsZoneBlock, IsMultiple, first_si
 use Rattle.mem_model.proofs.Laying.{over_same}
 use Rattle.mem_model.proofs.ZoneLists.{parted, all-parts, chosen_fits}
 use Rattle.mem_model.proofs.ZoneLaying.{taken_is, Laid-z_alloc, Laid-z_free, Laid-with_zone_bytes}
-use Rattle.mem_model.proofs.Untouched.{size-z_alloc, low-z_alloc, high-z_alloc, temp-z_alloc, low_bytes-z_alloc, temp_bytes-z_alloc, size-z_free, low-z_free, high-z_free, temp-z_free, low_bytes-z_free, temp_bytes-z_free, size-with_zone_bytes, low-with_zone_bytes, high-with_zone_bytes, temp-with_zone_bytes, low_bytes-with_zone_bytes, temp_bytes-with_zone_bytes, zone-with_event, zone-low_alloc, zone-low_free, zone-without_temp, zone-high_alloc, zone-high_free, zone-high_mark, zone-temp_alloc, zone-with_low_bytes, zone-with_temp_bytes, zone_bytes-same, zone_bytes-low_alloc, zone_bytes-low_free, zone_bytes-without_temp, zone_bytes-high_alloc, zone_bytes-high_free, zone_bytes-high_mark, zone_bytes-temp_alloc, zone_bytes-with_low_bytes, zone_bytes-with_temp_bytes}
+use Rattle.mem_model.proofs.Untouched.{size-z_alloc, low-z_alloc, high-z_alloc, temp-z_alloc, low_bytes-z_alloc, temp_bytes-z_alloc, size-z_free, low-z_free, high-z_free, temp-z_free, low_bytes-z_free, temp_bytes-z_free, size-with_zone_bytes, low-with_zone_bytes, high-with_zone_bytes, temp-with_zone_bytes, low_bytes-with_zone_bytes, temp_bytes-with_zone_bytes, zone-with_event, zone-low_alloc, zone-low_free, zone-without_temp, zone-high_alloc, zone-high_free, zone-high_mark, zone-temp_alloc, zone-with_low_bytes, zone-with_temp_bytes, zone_bytes-same, zone_bytes-low_alloc, zone_bytes-low_free, zone_bytes-without_temp, zone_bytes-high_alloc, zone_bytes-high_free, zone_bytes-high_mark, zone_bytes-temp_alloc, zone_bytes-with_low_bytes, zone_bytes-with_temp_bytes, zone-build_low, zone_bytes-build_low}
 use Rattle.mem_model.proofs.ZoneApart.{first_below, places-small}
 use Rattle.mem_model.proofs.ZoneBytes.{taken-bytes, with_free-bytes, at-bytes, place_above, inside-bytes, position_used, position_place, written-bytes, elsewhere-bytes}
 
@@ -248,4 +248,4 @@ AreUsed-same m n (place ∷ places) same used = (subst (λ o. IsSome o) (zone_by
 pub ruleset zone_laws = (Laid-z_alloc, Laid-z_free, Laid-with_zone_bytes, same-z_alloc, some-z_alloc, some-z_new, length-z_new, zone_place_apart, z_free-used, same-z_free, some-z_free, zone_bytes-written, zone_bytes-elsewhere, some-with_zone_bytes, zone_bytes-inside, zone_bytes-small, NoneIs-z_new, AreUsed-z_alloc, AreUsed-z_free, AreUsed-with_zone_bytes, places-small, low_bytes-z_alloc, low_bytes-z_free, low_bytes-with_zone_bytes, temp_bytes-z_alloc, temp_bytes-z_free, temp_bytes-with_zone_bytes, size-z_alloc, size-z_free, size-with_zone_bytes)
 
 -- for callers of the hunks: what their calls leave of the zone, and the zone's of the hunks
-pub ruleset apart_laws = (zone_bytes-low_alloc, zone_bytes-low_free, zone_bytes-without_temp, zone_bytes-high_alloc, zone_bytes-high_free, zone_bytes-high_mark, zone_bytes-temp_alloc, zone_bytes-with_low_bytes, zone_bytes-with_temp_bytes, zone-low_alloc, zone-low_free, zone-without_temp, zone-high_alloc, zone-high_free, zone-high_mark, zone-temp_alloc, zone-with_low_bytes, zone-with_temp_bytes, low-z_alloc, high-z_alloc, temp-z_alloc, low-z_free, high-z_free, temp-z_free, low-with_zone_bytes, high-with_zone_bytes, temp-with_zone_bytes)
+pub ruleset apart_laws = (zone_bytes-low_alloc, zone_bytes-low_free, zone_bytes-without_temp, zone_bytes-high_alloc, zone_bytes-high_free, zone_bytes-high_mark, zone_bytes-temp_alloc, zone_bytes-with_low_bytes, zone_bytes-with_temp_bytes, zone_bytes-build_low, zone-low_alloc, zone-low_free, zone-without_temp, zone-high_alloc, zone-high_free, zone-high_mark, zone-temp_alloc, zone-with_low_bytes, zone-with_temp_bytes, zone-build_low, low-z_alloc, high-z_alloc, temp-z_alloc, low-z_free, high-z_free, temp-z_free, low-with_zone_bytes, high-with_zone_bytes, temp-with_zone_bytes)

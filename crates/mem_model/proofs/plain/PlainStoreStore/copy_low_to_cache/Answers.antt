@@ -9,7 +9,8 @@ use Rattle.mem_model.specs.Images.{with_cache_bytes, with_user_bytes}
 use Rattle.mem_model.specs.Laid.{Laid}
 use Rattle.mem_model.specs.Plain.{IsAt}
 use Rattle.mem_model.specs.PlainState.{state_of}
-use Rattle.mem_model.proofs.Building.{cache_written, copy_gives, has_fits, low_found, some_has, some_peeked}
+use Rattle.mem_model.proofs.Building.{cache_written, copy_gives, low_found, some_peeked}
+use Rattle.mem_model.proofs.Laws.{has_fits, some_has}
 use Rattle.mem_model.proofs.CacheBytes.{Laid-with_cache_bytes}
 use Rattle.mem_model.proofs.plain.PlainStoreStore.copy_low_to_cache.Goals as goal
 use Rattle.mem_model.proofs.plain.PlainStoreStore.copy_low_to_cache.Goals.{After-bytes, After-copy_front}
