@@ -13,7 +13,7 @@ use Rattle.mem_model.specs.Laid.{Laid}
 use Rattle.mem_model.specs.Keeps.{held, unplaced, KeepsUsers, beside_cache}
 use Rattle.mem_model.proofs.CacheBytes.{Laid-with_cache_bytes, find-with_other, find-with_own, placed-with}
 use Rattle.mem_model.proofs.Laying.{over_front}
-use Rattle.mem_model.proofs.Laws.{has_over}
+use Rattle.mem_model.proofs.Laws.{front-over, has_over, length-front_of}
 use Rattle.mem_model.proofs.Untouched.{after_image}
 
 -- What a call that writes into one user's block leaves.
@@ -111,6 +111,18 @@ peek_bytes-copied m place user size source old from read here fits =
     let front = take size source in
     let sized : length front ≡ size = length-take-le size source read in
     rw from (peek_bytes-over m user front ∙ ap (option_map (λ bytes. over bytes front)) here ∙ ap Some (over_front old front (omega (arith, sized))) ∙ ap (λ n. Some (front ++ drop n old)) sized)
+
+pub front-cache_built : {F : Type 0} (m : Memory) (user len : ℕ) (image_of : List ℕ → Result (List ℕ) F) (image : List ℕ) → image_of (front_of (temp_bytes m) len) ≡ Ok image → HasBytes (peek_bytes m.cache user) (length image) →
+    front_of (peek_bytes (build_cache m user len image_of).after.cache user) (length image) ≡ image
+unfolding build_cache
+front-cache_built m user len image_of image made h = rw (made, peek_bytes-over m user image) (front-over (peek_bytes m.cache user) image h)
+
+pub front-copied : (m : Memory) (place user size : ℕ) → HasBytes (low_bytes m place) size → HasBytes (peek_bytes m.cache user) size → front_of (peek_bytes (copy_low_to_cache m place user size).after.cache user) size ≡ front_of (low_bytes m place) size
+unfolding copy_low_to_cache
+front-copied m place user size from h =
+    let front = front_of (low_bytes m place) size in
+    let sized : length front ≡ size = length-front_of (low_bytes m place) size from in
+    ap (front_of (peek_bytes (with_cache_bytes m user front).cache user)) (sym sized) ∙ rw (peek_bytes-over m user front) (front-over (peek_bytes m.cache user) front (rw sized h))
 
 -- Each other user holds what it held.
 pub held-build_cache : {F : Type 0} (m : Memory) (user other len : ℕ) (image_of : List ℕ → Result (List ℕ) F) → other ≢ user → held (build_cache m user len image_of).after.cache other ≡ held m.cache other

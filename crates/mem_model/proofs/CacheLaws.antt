@@ -19,12 +19,13 @@ use Rattle.mem_model.specs.Images.{front_of}
 use Rattle.mem_model.specs.Laid.{Laid, IsText, IsHunkBlock, IsCache, IsCacheBlock, count_in, users_of}
 use Rattle.mem_model.specs.Keeps.{held, unplaced, IsNot, KeepsUsers, beside_low, beside_high, beside_zone, beside_cache}
 use Rattle.mem_model.proofs.CacheBlocks.{find-none, find-some, count-gone, count-stays}
-use Rattle.mem_model.proofs.CacheImages.{Laid-build_cache, Laid-copy_low_to_cache, beside-build_cache, beside-copy_low_to_cache, has-build_cache, has-copy_low_to_cache, held-build_cache, held-copy_low_to_cache, keeps-build_cache, keeps-copy_low_to_cache, peek_bytes-build_cache, peek_bytes-built, peek_bytes-copied, peek_bytes-copy_low_to_cache, peek_place-build_cache, peek_place-copy_low_to_cache, recency-build_cache, recency-copy_low_to_cache}
+use Rattle.mem_model.proofs.CacheImages.{Laid-build_cache, Laid-copy_low_to_cache, beside-build_cache, beside-copy_low_to_cache, front-cache_built, front-copied, has-build_cache, has-copy_low_to_cache, held-build_cache, held-copy_low_to_cache, keeps-build_cache, keeps-copy_low_to_cache, peek_bytes-build_cache, peek_bytes-built, peek_bytes-copied, peek_bytes-copy_low_to_cache, peek_place-build_cache, peek_place-copy_low_to_cache, recency-build_cache, recency-copy_low_to_cache}
 use Rattle.mem_model.proofs.CacheMoves.{Keeps, later-pushed_up, later-pushed_down, later-without}
 use Rattle.mem_model.proofs.CacheNew.{grown-with_new, IsGrown}
-use Rattle.mem_model.proofs.Laws.{has_bytes}
+use Rattle.mem_model.proofs.Laws.{has_bytes, image_there}
 use Rattle.mem_model.proofs.Laying.{size_of-append, all-append, low_blocks-append, first_size-append, IsHunkBlock-hunk_block, Laid-with_cache, Laid-with_fewer}
 use Rattle.mem_model.proofs.HighLaying.{Laid-with_fewer_high, Laid-with_temp, temp-without_temp}
+use Rattle.mem_model.proofs.Newest.{temp_bytes-small}
 use Rattle.mem_model.proofs.Untouched.{after_image, left-with_event, left-either, left-z_alloc, left-z_free}
 use Rattle.mem_model.proofs.ZoneLaying.{Laid-with_event}
 
@@ -589,4 +590,4 @@ keeps-without_temp m laid = (sound-without_temp m laid).keeps
 
 -- For callers, as `#[tactic(auto, using(mem_model::proofs::CacheLaws::cache_laws))]` or one by one: the number of users,
 -- what users hold through calls that may move their blocks, and the bytes of each part through calls of another.
-pub ruleset cache_laws = (users-low_alloc, users-low_free, users-high_alloc, users-high_mark, users-high_free, users-temp_alloc, users-cache_alloc, users-check, users-cache_free, users-flush, held-new, peek_bytes-held, peek_bytes-kept, keeps_users_all, keeps_users_more, keeps_answer, keeps-without_temp, keeps-low_alloc, keeps-low_free, keeps-high_alloc, keeps-high_mark, keeps-high_free, keeps-temp_alloc, keeps-z_alloc, keeps-z_free, keeps-cache_alloc, keeps-check, keeps-cache_free, keeps-flush, beside-low_alloc, beside-low_free, beside-high_alloc, beside-high_mark, beside-high_free, beside-temp_alloc, beside-z_alloc, beside-z_free, beside-cache_alloc, beside-check, beside-cache_free, beside-flush, low_bytes-beside_high, low_bytes-beside_zone, low_bytes-beside_cache, temp_bytes-beside_low, temp_bytes-beside_zone, temp_bytes-beside_cache, zone_bytes-beside_low, zone_bytes-beside_high, zone_bytes-beside_cache, users-build_low, users-build_cache, users-copy_low_to_cache, keeps-build_low, keeps-build_cache, keeps-copy_low_to_cache, cache-build_low, beside-build_low, beside-build_cache, beside-copy_low_to_cache, Laid-build_cache, Laid-copy_low_to_cache, has_bytes, peek_bytes-built, peek_bytes-copied, held-build_cache, held-copy_low_to_cache, peek_bytes-build_cache, peek_bytes-copy_low_to_cache, peek_place-build_cache, peek_place-copy_low_to_cache, has-build_cache, has-copy_low_to_cache, recency-build_cache, recency-copy_low_to_cache)
+pub ruleset cache_laws = (users-low_alloc, users-low_free, users-high_alloc, users-high_mark, users-high_free, users-temp_alloc, users-cache_alloc, users-check, users-cache_free, users-flush, held-new, peek_bytes-held, peek_bytes-kept, keeps_users_all, keeps_users_more, keeps_answer, keeps-without_temp, keeps-low_alloc, keeps-low_free, keeps-high_alloc, keeps-high_mark, keeps-high_free, keeps-temp_alloc, keeps-z_alloc, keeps-z_free, keeps-cache_alloc, keeps-check, keeps-cache_free, keeps-flush, beside-low_alloc, beside-low_free, beside-high_alloc, beside-high_mark, beside-high_free, beside-temp_alloc, beside-z_alloc, beside-z_free, beside-cache_alloc, beside-check, beside-cache_free, beside-flush, low_bytes-beside_high, low_bytes-beside_zone, low_bytes-beside_cache, temp_bytes-beside_low, temp_bytes-beside_zone, temp_bytes-beside_cache, zone_bytes-beside_low, zone_bytes-beside_high, zone_bytes-beside_cache, users-build_low, users-build_cache, users-copy_low_to_cache, keeps-build_low, keeps-build_cache, keeps-copy_low_to_cache, cache-build_low, beside-build_low, beside-build_cache, beside-copy_low_to_cache, Laid-build_cache, Laid-copy_low_to_cache, temp_bytes-small, has_bytes, peek_bytes-built, peek_bytes-copied, front-cache_built, front-copied, image_there, held-build_cache, held-copy_low_to_cache, peek_bytes-build_cache, peek_bytes-copy_low_to_cache, peek_place-build_cache, peek_place-copy_low_to_cache, has-build_cache, has-copy_low_to_cache, recency-build_cache, recency-copy_low_to_cache)

@@ -1,11 +1,11 @@
 -- Laws of the operations, over the definitions alone: what callers of a store need.
-use Rattle.std.proofs.Common.{◌≡◌, ◌≢◌, ℕ, ◌+◌, ◌-◌, ◌≤◌, List, [], ◌∷◌, ◌++◌, Option, Some, None, Result, Ok, Err, Bool, true, false, ltb, eqb, cond, length, drop, refl, sym, ap, ◌∙◌, arith, replicate, ◌⊎◌, inl, inr, if◌then◌else◌, is_ok}
-use Rattle.std.specs.Prelude.{IsSome, codes}
+use Rattle.std.proofs.Common.{◌≡◌, ◌≢◌, ℕ, ◌+◌, ◌-◌, ◌≤◌, List, [], ◌∷◌, ◌++◌, Option, Some, None, Result, Ok, Err, Bool, true, false, ltb, eqb, cond, length, take, drop, refl, sym, ap, ◌∙◌, arith, replicate, ◌⊎◌, inl, inr, if◌then◌else◌, is_ok}
+use Rattle.std.specs.Prelude.{IsOkAnd, IsSome, codes}
 use Rattle.std.specs.Option.{option_map}
 use Rattle.std.specs.List.{AllByRecursion}
 use Rattle.std.proofs.lemmas.Bool.Decides.{eqb_tells}
 use Rattle.std.proofs.lemmas.Bool.{ne_eqb, eq-eqb}
-use Rattle.std.proofs.lemmas.List.{length-replicate}
+use Rattle.std.proofs.lemmas.List.{length-replicate, length-take-le, take_at}
 use Rattle.mem_model.specs.Event.{Event, Event.LowAlloc, Shortage}
 use Rattle.mem_model.specs.Blocks.{HunkBlock}
 use Rattle.mem_model.specs.Memory.{Memory, room, low_used, high_used, size_of}
@@ -14,12 +14,12 @@ use Rattle.mem_model.specs.Hunk.{hunk_block, with_low, with_bytes, over, bytes_f
 use Rattle.mem_model.specs.Answer.{Answered, noted, with_event}
 use Rattle.mem_model.specs.Laid.{Laid, IsHunkBlock, AreLowBlocks}
 use Rattle.mem_model.specs.Operations.{low_alloc, low_free, low_cut, temp_alloc, build_low, shortage}
-use Rattle.mem_model.specs.Images.{HasBytes, front_of}
+use Rattle.mem_model.specs.Images.{HasBytes, front_of, image_size}
 use Rattle.mem_model.proofs.Laying.{over_front, over_same, length-over, size_of-with_bytes_above, Laid-with_low_bytes}
 use Rattle.mem_model.proofs.Cuts.{cut_whole}
 use Rattle.mem_model.proofs.Calling.{high-high_taken}
 use Rattle.mem_model.proofs.Newest.{last_bytes-append, last_bytes-written, temp_bytes-small, Laid-with_temp_bytes}
-use Rattle.mem_model.proofs.Untouched.{after_image}
+use Rattle.mem_model.proofs.Untouched.{after_image, left-either}
 
 -- an event is no other part of the memory
 low-with_event : (m : Memory) (event : Event) → (with_event m event).low ≡ m.low
@@ -259,10 +259,13 @@ unfolding temp_bytes
 written_temp m None old bytes e h = absurd (cc)
 written_temp m (Some mark) old bytes e h = ap (temp_bytes_of (with_last_bytes m.high bytes)) e ∙ last_bytes-written m.high old bytes h
 
+temp_bytes-over : (m : Memory) (old bytes : List ℕ) → temp_bytes m ≡ Some old → temp_bytes (with_temp_bytes m bytes) ≡ Some (over old bytes)
+unfolding temp_bytes with_temp_bytes
+temp_bytes-over m old bytes h = written_temp m m.temp old bytes refl h
+
 -- What is written into the temporary block is there.
 pub temp_bytes-written : (m : Memory) (old bytes : List ℕ) → temp_bytes m ≡ Some old → length bytes ≡ length old → temp_bytes (with_temp_bytes m bytes) ≡ Some bytes
-unfolding temp_bytes with_temp_bytes
-temp_bytes-written m old bytes h same = written_temp m m.temp old bytes refl h ∙ ap Some (over_same old bytes same)
+temp_bytes-written m old bytes h same = temp_bytes-over m old bytes h ∙ ap Some (over_same old bytes same)
 
 -- A block that has so many bytes is there, and one that is there with so many has them.
 pub some_has : (block : Option (List ℕ)) (n : ℕ) → HasBytes block n → IsSome block
@@ -291,20 +294,20 @@ unfolding build_low
 low_bytes-built m place len image_of old image here made fits =
     rw made (low_bytes-over m place image ∙ ap (option_map (λ bytes. over bytes image)) here ∙ ap Some (over_front old image fits))
 
--- Each other low block has the bytes that it had, and each is as long as it was.
+pub front-over : (block : Option (List ℕ)) (bytes : List ℕ) → HasBytes block (length bytes) → front_of (option_map (λ old. over old bytes) block) (length bytes) ≡ bytes
+front-over None bytes h = absurd h
+front-over (Some old) bytes h = ap (take (length bytes)) (over_front old bytes h) ∙ take_at bytes (drop (length bytes) old) (length bytes) refl
+
+pub front-built : {F : Type 0} (m : Memory) (place len : ℕ) (image_of : List ℕ → Result (List ℕ) F) (image : List ℕ) → image_of (front_of (temp_bytes m) len) ≡ Ok image → HasBytes (low_bytes m place) (length image) →
+    front_of (low_bytes (build_low m place len image_of).after place) (length image) ≡ image
+unfolding build_low
+front-built m place len image_of image made h = rw (made, low_bytes-over m place image) (front-over (low_bytes m place) image h)
+
+-- Each other low block has the bytes that it had.
 pub low_bytes-build_low : {F : Type 0} (m : Memory) (place other len : ℕ) (image_of : List ℕ → Result (List ℕ) F) → other ≢ place → low_bytes (build_low m place len image_of).after other ≡ low_bytes m other
 unfolding build_low
 low_bytes-build_low m place other len image_of apart =
     after_image (λ n. low_bytes n other ≡ low_bytes m other) m (with_low_bytes m place) (image_of (front_of (temp_bytes m) len)) refl (λ image. low_bytes-elsewhere m place other image apart)
-
-pub has-build_low : {F : Type 0} (m : Memory) (place other len n : ℕ) (image_of : List ℕ → Result (List ℕ) F) → HasBytes (low_bytes m other) n → HasBytes (low_bytes (build_low m place len image_of).after other) n
-unfolding build_low
-has-build_low m place other len n image_of h =
-    elim (eqb_tells other place) [
-      | inl at ↦ after_image (λ k. HasBytes (low_bytes k other) n) m (with_low_bytes m place) (image_of (front_of (temp_bytes m) len)) h (λ image.
-        has_over _ (low_bytes m other) n image (ap (low_bytes (with_low_bytes m place image)) at.1 ∙ low_bytes-over m place image ∙ ap (λ p. option_map (λ old. over old image) (low_bytes m p)) (sym at.1)) h)
-      | inr off ↦ rw (low_bytes-build_low m place other len image_of off.1) h
-    ]
 
 -- So have the temporary bytes, and the low hunk is as long as it was.
 pub temp_bytes-build_low : {F : Type 0} (m : Memory) (place len : ℕ) (image_of : List ℕ → Result (List ℕ) F) → temp_bytes (build_low m place len image_of).after ≡ temp_bytes m
@@ -317,5 +320,67 @@ unfolding build_low with_low_bytes
 low_used-build_low m place len image_of =
     after_image (λ n. low_used n ≡ low_used m) m (with_low_bytes m place) (image_of (front_of (temp_bytes m) len)) refl (λ image. size_of-with_bytes_above m.low place image)
 
+-- A block has as many bytes as it had, whatever is allocated low or written; a new one has those that were asked.
+high-low_alloc : (m : Memory) (size : ℕ) (name : List ℕ) → (low_alloc m size name).after.high ≡ m.high
+unfolding low_alloc with_low
+high-low_alloc m size name = high-with_event _ _ ∙ left-either (λ n. n.high) (ltb (room m) (hunk_need size)) _ _ m.high refl refl
+
+temp-low_alloc : (m : Memory) (size : ℕ) (name : List ℕ) → (low_alloc m size name).after.temp ≡ m.temp
+unfolding low_alloc with_low
+temp-low_alloc m size name = temp-with_event _ _ ∙ left-either (λ n. n.temp) (ltb (room m) (hunk_need size)) _ _ m.temp refl refl
+
+pub temp_bytes-low_alloc : (m : Memory) (size : ℕ) (name : List ℕ) → temp_bytes (low_alloc m size name).after ≡ temp_bytes m
+unfolding temp_bytes
+temp_bytes-low_alloc m size name = ap (λ high. temp_bytes_of high (low_alloc m size name).after.temp) (high-low_alloc m size name) ∙ ap (temp_bytes_of m.high) (temp-low_alloc m size name)
+
+pub has-temp_new : (m : Memory) (size place n : ℕ) → (temp_alloc m size).answer ≡ Ok place → n ≤ size → HasBytes (temp_bytes (temp_alloc m size).after) n
+has-temp_new m size place n h fits =
+    has_bytes _ n (replicate (round_up size 16) 0) (temp_bytes-new m size place h) (omega (arith, fits, length-replicate {A = ℕ} (round_up size 16) 0))
+
+pub has-temp_written : (m : Memory) (n : ℕ) (bytes : List ℕ) → HasBytes (temp_bytes m) n → HasBytes (temp_bytes (with_temp_bytes m bytes)) n
+has-temp_written m n bytes h = has_written (temp_bytes m) refl h where
+  has_written : (o : Option (List ℕ)) → temp_bytes m ≡ o → HasBytes o n → HasBytes (temp_bytes (with_temp_bytes m bytes)) n
+  has_written None e g = absurd g
+  has_written (Some old) e g = has_bytes _ n (over old bytes) (temp_bytes-over m old bytes e) (omega (arith, g, length-over old bytes))
+
+pub has-low_new : (m : Memory) (size place n : ℕ) (name : List ℕ) → Laid m → (low_alloc m size name).answer ≡ Ok place → n ≤ size → HasBytes (low_bytes (low_alloc m size name).after place) n
+has-low_new m size place n name laid h fits =
+    has_bytes _ n (replicate (round_up size 16) 0) (low_bytes-new m size place name laid h) (omega (arith, fits, length-replicate {A = ℕ} (round_up size 16) 0))
+
+pub has-low_alloc : (m : Memory) (size place n : ℕ) (name : List ℕ) → HasBytes (low_bytes m place) n → HasBytes (low_bytes (low_alloc m size name).after place) n
+has-low_alloc m size place n name h = kept (low_bytes m place) refl h where
+  kept : (o : Option (List ℕ)) → low_bytes m place ≡ o → HasBytes o n → HasBytes (low_bytes (low_alloc m size name).after place) n
+  kept None e g = absurd g
+  kept (Some bytes) e g = has_bytes _ n bytes (low_bytes-low_alloc m size name place bytes e) g
+
+pub has-low_written : (m : Memory) (place other n : ℕ) (bytes : List ℕ) → HasBytes (low_bytes m other) n → HasBytes (low_bytes (with_low_bytes m place bytes) other) n
+has-low_written m place other n bytes h =
+    elim (eqb_tells other place) [
+      | inl at ↦ has_over _ (low_bytes m other) n bytes (ap (low_bytes (with_low_bytes m place bytes)) at.1 ∙ low_bytes-over m place bytes ∙ ap (λ p. option_map (λ old. over old bytes) (low_bytes m p)) (sym at.1)) h
+      | inr off ↦ rw (low_bytes-elsewhere m place other bytes off.1) h
+    ]
+
+pub has-build_low : {F : Type 0} (m : Memory) (place other len n : ℕ) (image_of : List ℕ → Result (List ℕ) F) → HasBytes (low_bytes m other) n → HasBytes (low_bytes (build_low m place len image_of).after other) n
+unfolding build_low
+has-build_low m place other len n image_of h =
+    after_image (λ k. HasBytes (low_bytes k other) n) m (with_low_bytes m place) (image_of (front_of (temp_bytes m) len)) h (λ image. has-low_written m place other n image h)
+
+-- A block that is there stays.
+pub some-build_low : {F : Type 0} (m : Memory) (place other len : ℕ) (image_of : List ℕ → Result (List ℕ) F) → IsSome (low_bytes m other) → IsSome (low_bytes (build_low m place len image_of).after other)
+some-build_low m place other len image_of h = some_has _ 0 (has-build_low m place other len 0 image_of (has_none (low_bytes m other) h)) where
+  has_none : (o : Option (List ℕ)) → IsSome o → HasBytes o 0
+  has_none None g = absurd (cc)
+  has_none (Some bytes) g = omega arith
+
+-- An image of a size that was told is there, and a block of so many bytes holds it.
+pub image_there : {F : Type 0} (r : Result (List ℕ) F) (block : Option (List ℕ)) (size : ℕ) → image_size r ≡ Ok size → HasBytes block size → IsOkAnd r (λ image. HasBytes block (length image))
+image_there (Ok image) block size e h = let same : size ≡ length image = cc in rw (← same) h
+image_there (Err fault) block size e h = absurd (cc)
+
+-- as many bytes as are asked are at the front
+pub length-front_of : (block : Option (List ℕ)) (n : ℕ) → HasBytes block n → length (front_of block n) ≡ n
+length-front_of None n h = absurd h
+length-front_of (Some bytes) n h = length-take-le n bytes h
+
 -- for callers: `#[tactic(auto, using(mem_model::proofs::Laws::store_laws))]`
-pub ruleset store_laws = (low_place_apart, low_bytes-low_alloc, low_bytes-new, length-new, low_bytes-written, low_bytes-elsewhere, low_free-low_alloc, low-low_free, low_bytes-low_free, Laid-with_low_bytes, temp_bytes-new, length-temp, temp_bytes-written, Laid-with_temp_bytes, temp_bytes-small, has_bytes, Laid-build_low, low_bytes-built, low_bytes-build_low, has-build_low, temp_bytes-build_low, low_used-build_low)
+pub ruleset store_laws = (low_place_apart, low_bytes-low_alloc, low_bytes-new, length-new, low_bytes-written, low_bytes-elsewhere, low_free-low_alloc, low-low_free, low_bytes-low_free, Laid-with_low_bytes, temp_bytes-new, length-temp, temp_bytes-written, Laid-with_temp_bytes, temp_bytes-small, has_bytes, temp_bytes-low_alloc, has-temp_new, has-temp_written, has-low_new, has-low_alloc, has-low_written, Laid-build_low, low_bytes-built, front-built, low_bytes-build_low, has-build_low, some-build_low, temp_bytes-build_low, low_used-build_low, image_there, length-front_of)

@@ -2,16 +2,17 @@
 //!
 //! A function over any store `M` is a test that every store has to pass. The tests at the top run each on a plain store.
 
-ghost use Rattle.std.specs.Prelude.{◌≡◌, ◌≤◌, ◌<◌, ◌^◌, ℕ, List, length, true, IfOk, Some, None};
+ghost use Rattle.std.specs.Prelude.{◌≡◌, ◌≢◌, ◌≤◌, ◌<◌, ◌^◌, ℕ, List, length, true, IfOk, IfSome, IsSome, OnSome, Ok, Some, None};
 ghost use Rattle.mem_model.specs.Memory.{new_memory};
 ghost use Rattle.mem_model.specs.Keeps.{KeepsUsers};
 ghost use Rattle.mem_model.specs.Cache.{peek_bytes};
 ghost use Rattle.mem_model.specs.Hunk.{low_bytes, temp_bytes};
 ghost use Rattle.mem_model.specs.Zone.{zone_bytes};
+ghost use Rattle.mem_model.specs.Images.{HasBytes, front_of};
 
 use crate::{
-    BadMark, BlockRow, CacheError, FreeError, Place, PlainStore, RoomError, Store, StoreStart,
-    ZoneError,
+    BadMark, BlockRow, Builder, CacheError, FreeError, Place, PlainStore, RoomError, Store,
+    StoreStart, ZoneError,
 };
 use std::alloc::Global;
 use std::process::Abort;
@@ -62,7 +63,8 @@ fn cache_blocks_of_a_plain_store(rt: HostRuntime) -> Result<(), Fail> {
     cache_blocks_hop_up(&rt, plain(rt.alloc())?)?;
     cache_blocks_hop_down(&rt, plain(rt.alloc())?);
     a_cache_block_without_a_gap_leaves(&rt, plain(rt.alloc())?);
-    the_cache_refuses_and_evicts(&rt, plain(rt.alloc())?)
+    the_cache_refuses_and_evicts(&rt, plain(rt.alloc())?)?;
+    images_come_to_the_front_of_blocks(&rt, plain(rt.alloc())?)
 }
 
 #[test]
@@ -285,6 +287,92 @@ fn zone_blocks_keep_what_is_written<M: Store>(rt: &impl Abort, mut store: M) -> 
     Ok(())
 }
 
+// The image of bytes is these twice.
+#[derive(Drop)]
+struct Doubled;
+
+impl Builder for Doubled {
+    type Fault = ();
+
+    ghost use Rattle.std.specs.Prelude.{◌++◌, Ok};
+
+    ghost image_of = { λ _ source. Ok (source ++ source) };
+
+    fn size(&self, source: &[u8]) -> Result<u64, ()> {
+        Ok(2 * source.len() as u64)
+    }
+
+    fn build(&self, source: &[u8], block: &mut [u8]) {
+        let (front, back) = block.split_at_mut(source.len());
+        front.copy_from_slice(source);
+        back.copy_from_slice(source);
+    }
+}
+
+// Builds the image of the first temporary bytes in a new low block.
+#[tactic(auto, using(crate::proofs::Laws::store_laws))]
+fn builds_low<M: Store, B: Builder>(store: &mut M, len: usize, builder: &B) -> Option<Place>
+    requires { HasBytes (temp_bytes (M.state store.old)) len }
+    ensures built { IfSome result (λ place. (image : List ℕ) →
+        B.image_of builder.now (front_of (temp_bytes (M.state store.old)) len) ≡ Ok image →
+        front_of (low_bytes (M.state store.new) place.0) (length image) ≡ image) }
+    ensures there { IfSome result (λ place. IsSome (low_bytes (M.state store.new) place.0)) }
+    ensures temp { temp_bytes (M.state store.new) ≡ temp_bytes (M.state store.old) }
+{
+    let source = store.temp_bytes()?;
+    let size = builder.size(&source[..len]).ok()?;
+    if size > 65_536 {
+        return None;
+    }
+    let place = store.low_alloc(size, b"image").ok()?;
+    store.build_low(place, len, builder);
+    Some(place)
+}
+
+// Builds the image of the first temporary bytes in a user's block, where that has room for it.
+#[tactic(auto, using(crate::proofs::CacheLaws::cache_laws, crate::proofs::Laws::store_laws))]
+fn builds_cache<M: Store, B: Builder>(
+    store: &mut M,
+    user: u32,
+    len: usize,
+    builder: &B,
+) -> Option<()>
+    requires { HasBytes (temp_bytes (M.state store.old)) len }
+    ensures built { OnSome result ((image : List ℕ) →
+        B.image_of builder.now (front_of (temp_bytes (M.state store.old)) len) ≡ Ok image →
+        front_of (peek_bytes (M.state store.new).cache user) (length image) ≡ image) }
+    ensures others { (other : ℕ) → other ≢ user →
+        peek_bytes (M.state store.new).cache other ≡ peek_bytes (M.state store.old).cache other }
+    ensures low { (place : ℕ) → low_bytes (M.state store.new) place ≡ low_bytes (M.state store.old) place }
+    ensures temp { temp_bytes (M.state store.new) ≡ temp_bytes (M.state store.old) }
+{
+    let source = store.temp_bytes()?;
+    let size = builder.size(&source[..len]).ok()?;
+    if (store.peek(user)?.len() as u64) < size {
+        return None;
+    }
+    store.build_cache(user, len, builder);
+    Some(())
+}
+
+// Copies the first bytes of a low block to a user's block, where both have as many.
+#[tactic(auto, using(crate::proofs::CacheLaws::cache_laws))]
+fn copies<M: Store>(store: &mut M, place: Place, user: u32, size: u32) -> Option<()>
+    requires { IsSome (low_bytes (M.state store.old) place.0) }
+    ensures copied { OnSome result (front_of (peek_bytes (M.state store.new).cache user) size
+        ≡ front_of (low_bytes (M.state store.old) place.0) size) }
+    ensures others { (other : ℕ) → other ≢ user →
+        peek_bytes (M.state store.new).cache other ≡ peek_bytes (M.state store.old).cache other }
+    ensures low { (place : ℕ) → low_bytes (M.state store.new) place ≡ low_bytes (M.state store.old) place }
+{
+    let room = store.peek(user)?.len().min(store.low_bytes(place).len());
+    if room < size as usize {
+        return None;
+    }
+    store.copy_low_to_cache(place, user, size);
+    Some(())
+}
+
 // Asks for a block of the cache of 8 users.
 fn ask<M: Store>(store: &mut M, user: u32, size: u32) -> Result<(), CacheError>
     requires users { (M.state store.old).users ≡ 8 }
@@ -402,6 +490,31 @@ fn the_cache_refuses_and_evicts<M: Store>(rt: &impl Abort, mut store: M) -> Resu
     );
     assert_eq!(rt; store.peek(3), Some([0; 8_008].as_slice()));
     assert_eq!(rt; store.peek(1), None);
+    Ok(())
+}
+
+#[tactic(auto, using(crate::proofs::Laws::store_laws))]
+fn images_come_to_the_front_of_blocks<M: Store>(rt: &impl Abort, mut store: M) -> Result<(), Fail>
+    requires { (M.state store).users ≡ 8 }
+{
+    fill(rt, &mut store, &[8, 8]);
+    store.temp_alloc(16)?;
+    put(store.temp_bytes_mut(), b"quake");
+    let place = builds_low(&mut store, 5, &Doubled).expect(rt, "there is room");
+    assert_eq!(rt;
+        store.low_bytes(place),
+        b"quakequake\0\0\0\0\0\0".as_slice()
+    );
+    assert_eq!(rt; builds_cache(&mut store, 0, 4, &Doubled), Some(()));
+    assert_eq!(rt; builds_cache(&mut store, 0, 1, &Doubled), Some(()));
+    assert_eq!(rt; builds_cache(&mut store, 0, 5, &Doubled), None);
+    let built = *b"qqakquak";
+    assert_eq!(rt; store.peek(0), Some(built.as_slice()));
+    assert_eq!(rt; copies(&mut store, place, 1, 7), Some(()));
+    assert_eq!(rt; copies(&mut store, place, 1, 9), None);
+    let copied = *b"quakequ\0";
+    assert_eq!(rt; store.peek(1), Some(copied.as_slice()));
+    assert_cache(rt, &store, &[(49_216, 1), (49_264, 0)], &[0, 1]);
     Ok(())
 }
 
