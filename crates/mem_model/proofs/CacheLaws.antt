@@ -20,7 +20,7 @@ use Rattle.mem_model.specs.Laid.{Laid, IsText, IsHunkBlock, IsCache, IsCacheBloc
 use Rattle.mem_model.specs.Keeps.{held, unplaced, IsNot, KeepsUsers, beside_low, beside_high, beside_zone, beside_cache}
 use Rattle.mem_model.proofs.CacheBlocks.{find-none, find-some, count-gone, count-stays}
 use Rattle.mem_model.proofs.CacheImages.{Laid-build_cache, Laid-copy_low_to_cache, beside-build_cache, beside-copy_low_to_cache, front-cache_built, front-copied, has-build_cache, has-copy_low_to_cache, held-build_cache, held-copy_low_to_cache, keeps-build_cache, keeps-copy_low_to_cache, peek_bytes-build_cache, peek_bytes-built, peek_bytes-copied, peek_bytes-copy_low_to_cache, peek_place-build_cache, peek_place-copy_low_to_cache, recency-build_cache, recency-copy_low_to_cache}
-use Rattle.mem_model.proofs.CacheMoves.{Keeps, later-pushed_up, later-pushed_down, later-without}
+use Rattle.mem_model.proofs.CacheMoves.{KeepsHeld, later-pushed_up, later-pushed_down, later-without}
 use Rattle.mem_model.proofs.CacheNew.{grown-with_new, IsGrown}
 use Rattle.mem_model.proofs.Laws.{has_bytes, image_there}
 use Rattle.mem_model.proofs.Laying.{size_of-append, all-append, low_blocks-append, first_size-append, IsHunkBlock-hunk_block, Laid-with_cache, Laid-with_fewer}
@@ -36,7 +36,7 @@ keeps_users_all new m = record { others = λ user b is h. h }
 pub keeps_users_more : {new : Option ℕ} {a b c : Memory} → KeepsUsers new a b → KeepsUsers new b c → KeepsUsers new a c
 keeps_users_more p q = record { others = λ user x is h. p.others user x is (q.others user x is h) }
 
-keeps_by : (new : Option ℕ) (m n : Memory) → Keeps m.cache n.cache → KeepsUsers new m n
+keeps_by : (new : Option ℕ) (m n : Memory) → KeepsHeld m.cache n.cache → KeepsUsers new m n
 keeps_by new m n p = record { others = λ user b is h. p.holds user b h }
 
 -- where the cache is the same
@@ -574,7 +574,7 @@ peek_bytes-held c user b h = shown (block_of c user) h where
 pub keeps_answer : {A : Type 0} {new : Option ℕ} {before after : Memory} {given : Answered A} {reply : A} → Answers given reply after → KeepsUsers new before given.after → KeepsUsers new before after
 keeps_answer {new = new} {before = before} a k = subst (KeepsUsers new before) (sym a.after) k
 
-block_shown : (o : Option CacheBlock) (bytes : List ℕ) → option_map (λ (x : CacheBlock). x.bytes) o ≡ Some bytes → (b : CacheBlock) × (o ≡ Some b) × (b.bytes ≡ bytes)
+pub block_shown : (o : Option CacheBlock) (bytes : List ℕ) → option_map (λ (x : CacheBlock). x.bytes) o ≡ Some bytes → (b : CacheBlock) × (o ≡ Some b) × (b.bytes ≡ bytes)
 block_shown None bytes e = absurd (cc)
 block_shown (Some b) bytes e = (b, refl, (let same : b.bytes ≡ bytes = cc in same))
 

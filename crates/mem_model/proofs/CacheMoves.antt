@@ -18,19 +18,19 @@ use Rattle.mem_model.proofs.CacheBlocks.{find-stays, find-gone, find-put_other, 
 use Rattle.mem_model.proofs.Pushes.{passes-least, IsRising, StartsAbove, pushed_up-ends, pushed_down-ends}
 
 -- Each user holds what it held, or nothing.
-pub record Keeps (before after : Cache) : Type 0 where
+pub record KeepsHeld (before after : Cache) : Type 0 where
   pub holds : (user : ℕ) (b : CacheBlock) → held after user ≡ Some b → held before user ≡ Some b
 
-pub keeps_all : (c : Cache) → Keeps c c
+pub keeps_all : (c : Cache) → KeepsHeld c c
 keeps_all c = record { holds = λ user b h. h }
 
-pub keeps_more : {a b c : Cache} → Keeps a b → Keeps b c → Keeps a c
+pub keeps_more : {a b c : Cache} → KeepsHeld a b → KeepsHeld b c → KeepsHeld a c
 keeps_more p q = record { holds = λ user b h. p.holds user b (q.holds user b h) }
 
 -- A cache in order that keeps what users held.
 pub record IsLater (users bottom top : ℕ) (before after : Cache) : Type 0 where
   pub cache : IsCache after users bottom top
-  pub keeps : Keeps before after
+  pub keeps : KeepsHeld before after
 
 held_same : (c d : Cache) (user : ℕ) → block_of c user ≡ block_of d user → held c user ≡ held d user
 unfolding held
@@ -149,7 +149,7 @@ unfolding held
 held_is c user b h = ap (option_map unplaced) h
 
 -- A block that moves stays with its user.
-keeps-moved : (c : Cache) (b : CacheBlock) (place user : ℕ) (x : CacheBlock) → block_of c b.user ≡ Some b → Keeps c (without c b.user) → held (moved c b place) user ≡ Some x → held c user ≡ Some x
+keeps-moved : (c : Cache) (b : CacheBlock) (place user : ℕ) (x : CacheBlock) → block_of c b.user ≡ Some b → KeepsHeld c (without c b.user) → held (moved c b place) user ≡ Some x → held c user ≡ Some x
 keeps-moved c b place user x there rest h =
     elim (eqb_tells b.user user) [
       | inl at ↦ (let was : held c user ≡ Some (unplaced b) = ap (held c) (sym at.1) ∙ held_is c b.user b there in

@@ -34,3 +34,4 @@ pub mod CacheBytes
 pub mod CacheImages
 pub mod CacheLaws
 pub mod Building
+pub mod Keeping

@@ -1,9 +1,10 @@
 -- What an operation leaves of the parts of a memory that it is not about.
-use Rattle.std.specs.Prelude.{ℕ, ◌≡◌, ◌≢◌, [], Option, Some, None}
+use Rattle.std.specs.Prelude.{ℕ, ◌≡◌, ◌≢◌, List, [], Option, Some, None, IsSome, All, Contains}
 use Rattle.std.specs.Option.{option_map}
 use Rattle.mem_model.specs.Blocks.{CacheBlock}
 use Rattle.mem_model.specs.Memory.{Memory, Cache}
 use Rattle.mem_model.specs.Cache.{block_of}
+use Rattle.mem_model.specs.Hunk.{low_bytes}
 
 -- a block of the cache, wherever it stands
 abbrev pub unplaced : CacheBlock → CacheBlock
@@ -20,6 +21,16 @@ IsNot (Some new) user = user ≢ new
 -- Each user that has a block after had the same before, at whatever place, but for a new one.
 pub record KeepsUsers (new : Option ℕ) (before after : Memory) : Type 0 where
   pub others : (user : ℕ) (b : CacheBlock) → IsNot new user → held after.cache user ≡ Some b → held before.cache user ≡ Some b
+
+-- at each of the places is a low block above the zone
+abbrev pub AreLow : Memory → List ℕ → Type 0
+AreLow m places = All (λ place. IsSome (low_bytes m place)) places
+
+-- What is left of the blocks that a table names. The low block at each of the places is there with the bytes that it had. Each
+-- user that has a block after had the same before, at whatever place, but for the excepted ones.
+pub record Keeps (lows except : List ℕ) (before after : Memory) : Type 0 where
+  pub low : (place : ℕ) (bytes : List ℕ) → Contains lows place → low_bytes before place ≡ Some bytes → low_bytes after place ≡ Some bytes
+  pub users : (user : ℕ) (b : CacheBlock) → ¬ Contains except user → held after.cache user ≡ Some b → held before.cache user ≡ Some b
 
 abbrev no_cache : Cache
 no_cache = record { blocks = []; recency = [] }
