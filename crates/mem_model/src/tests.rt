@@ -2,9 +2,9 @@
 //!
 //! A function over any store `M` is a test that every store has to pass. The tests at the top run each on a plain store.
 
-ghost use Rattle.std.specs.Prelude.{◌≡◌, ◌≢◌, ◌≤◌, ◌<◌, ◌^◌, ℕ, List, length, true, IfOk, IfSome, IsSome, OnSome, Ok, Some, None};
+ghost use Rattle.std.specs.Prelude.{◌≡◌, ◌≢◌, ◌≤◌, ◌<◌, ◌^◌, ℕ, List, [], length, true, IfOk, IfSome, IsSome, OnSome, Ok, Some, None};
 ghost use Rattle.mem_model.specs.Memory.{new_memory};
-ghost use Rattle.mem_model.specs.Keeps.{KeepsUsers};
+ghost use Rattle.mem_model.specs.Keeps.{AreLow, Keeps};
 ghost use Rattle.mem_model.specs.Cache.{peek_bytes};
 ghost use Rattle.mem_model.specs.Hunk.{low_bytes, temp_bytes};
 ghost use Rattle.mem_model.specs.Zone.{zone_bytes};
@@ -310,13 +310,15 @@ impl Builder for Doubled {
 }
 
 // Builds the image of the first temporary bytes in a new low block.
-#[tactic(auto, using(crate::proofs::Laws::store_laws))]
+#[tactic(auto, using(crate::proofs::Laws::store_laws, crate::proofs::Keeping::keeping_laws))]
 fn builds_low<M: Store, B: Builder>(store: &mut M, len: usize, builder: &B) -> Option<Place>
     requires { HasBytes (temp_bytes (M.state store.old)) len }
     ensures built { IfSome result (λ place. (image : List ℕ) →
         B.image_of builder.now (front_of (temp_bytes (M.state store.old)) len) ≡ Ok image →
         front_of (low_bytes (M.state store.new) place.0) (length image) ≡ image) }
     ensures there { IfSome result (λ place. IsSome (low_bytes (M.state store.new) place.0)) }
+    ensures kept { (lows : List ℕ) → AreLow (M.state store.old) lows →
+        Keeps lows [] (M.state store.old) (M.state store.new) }
     ensures temp { temp_bytes (M.state store.new) ≡ temp_bytes (M.state store.old) }
 {
     let source = store.temp_bytes()?;
@@ -324,7 +326,9 @@ fn builds_low<M: Store, B: Builder>(store: &mut M, len: usize, builder: &B) -> O
     if size > 65_536 {
         return None;
     }
-    let place = store.low_alloc(size, b"image").ok()?;
+    let Ok(place) = store.low_alloc(size, b"image") else {
+        return None;
+    };
     store.build_low(place, len, builder);
     Some(place)
 }
@@ -520,7 +524,7 @@ fn images_come_to_the_front_of_blocks<M: Store>(rt: &impl Abort, mut store: M) -
 
 // Calls of every part, which may move each block of the cache and free it. One that is still there holds what it held.
 fn stir_all<M: Store>(store: &mut M, user: u32)
-    ensures kept { KeepsUsers None (M.state store.old) (M.state store.new) }
+    ensures kept { (lows : List ℕ) → Keeps lows [] (M.state store.old) (M.state store.new) }
     ensures bytes { (other : ℕ) (bytes : List ℕ) → peek_bytes (M.state store.new).cache other ≡ Some bytes →
         peek_bytes (M.state store.old).cache other ≡ Some bytes }
 {
