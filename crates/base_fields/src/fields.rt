@@ -45,3 +45,11 @@ pub fn put_u32(bytes: &mut [u8], at: usize, value: u32)
 {
     LittleEndian::write_u32(&mut bytes[at..at + 4], value);
 }
+
+/// Fills the four bytes with the number, the lowest first.
+pub fn fill_u32(word: &mut [u8], value: u32)
+    requires { length word.old ≡ 4 }
+    ensures { word.new ≡ u32_bytes value }
+{
+    LittleEndian::write_u32(word, value);
+}

@@ -1,0 +1,5 @@
+pub mod Walking
+pub mod RatioLaws
+pub mod HeaderLaws
+pub mod Passing
+pub mod SampleLaws
