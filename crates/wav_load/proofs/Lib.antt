@@ -3,3 +3,4 @@ pub mod RatioLaws
 pub mod HeaderLaws
 pub mod Passing
 pub mod SampleLaws
+pub mod SoundLaws

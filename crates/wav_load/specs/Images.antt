@@ -31,12 +31,16 @@ outputs width ratio input n = flat_map (output width ratio input) (range_with_le
 abbrev pub input_in : List ℕ → Sound → List ℕ
 input_in bytes sound = field (sound.width * sound.played) bytes sound.from
 
+-- how many samples there are at the speed
+abbrev pub count_of : Sound → ℕ
+count_of sound = scaled sound.ratio sound.played
+
 abbrev pub samples_of : List ℕ → Sound → List ℕ
-samples_of bytes sound = outputs sound.width sound.ratio (input_in bytes sound) (scaled sound.ratio sound.played)
+samples_of bytes sound = outputs sound.width sound.ratio (input_in bytes sound) (count_of sound)
 
 abbrev pub header_of : Sound → ℕ → SoundHeader
 header_of sound speed = record {
-  length = scaled sound.ratio sound.played;
+  length = count_of sound;
   loop_start = option_map (scaled sound.ratio) sound.loop_start;
   speed = speed;
   width = sound.width;

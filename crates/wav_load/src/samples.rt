@@ -3,9 +3,11 @@ ghost use Rattle.std.specs.Prelude.{◌≡◌, ◌*◌, ◌/◌, ◌%◌, ◌≤
 ghost use Rattle.std.specs.List.{repeat};
 ghost use Rattle.wav_load.specs.declared.ratio.Ratio.TheVariants.{Times, Part};
 ghost use Rattle.wav_load.specs.Ratios.{scaled, IsSmall};
-ghost use Rattle.wav_load.specs.Images.{centred, outputs};
+ghost use Rattle.wav_load.specs.Faults.{IsInside};
+ghost use Rattle.wav_load.specs.Images.{centred, outputs, samples_of, count_of};
 
 use crate::ratio::Ratio;
+use crate::sound::Sound;
 
 // A sample of 8 bits as it is kept: less 128.
 fn centred(sample: u8) -> u8
@@ -129,5 +131,21 @@ fn put_words(block: &mut [u8], input: &[u8], ratio: Ratio)
         Ratio::Times(1) => keep_words(block, input),
         Ratio::Times(power) => skip_words(block, input, power as usize),
         Ratio::Part(power) => repeat_words(block, input, power as usize),
+    }
+}
+
+// The samples of a sound, from where they stand in its file.
+pub(crate) fn put_samples(block: &mut [u8], source: &[u8], sound: &Sound)
+    requires inside { IsInside (length source.now) sound.now }
+    requires small { length source.now ≤ 2 ^ 26 }
+    requires sized { length block.old ≡ sound.now.width * count_of sound.now }
+    ensures { block.new ≡ samples_of source.now sound.now }
+{
+    let length = sound.width as usize * sound.played as usize;
+    let input = &source[sound.from..sound.from + length];
+    if sound.width == 1 {
+        put_bytes(block, input, sound.ratio);
+    } else {
+        put_words(block, input, sound.ratio);
     }
 }
