@@ -1,5 +1,6 @@
 -- What the definitions give at words that tell.
-use Rattle.std.proofs.Common.{◌≡◌, ℕ, pos, negsuc, List, [], ◌∷◌, replicate, Some, None, codes, refl}
+use Rattle.std.proofs.Common.{◌≡◌, ℕ, true, false, pos, negsuc, List, [], ◌∷◌, replicate, Some, None, codes, refl}
+use Rattle.base_fields.specs.Faults.{first_fault}
 use Rattle.base_fields.specs.Fields.{u16_in, i16_in, u32_in, i32_in, u32_bytes, with_field}
 use Rattle.base_fields.specs.Names.{is_game_name, lawful_name, base_of}
 use Rattle.base_fields.specs.Numbers.{is_number_word, number_of}
@@ -148,3 +149,10 @@ below_the_sign = refl
 
 put_in_the_middle : with_field some_bytes 2 (u32_bytes 0x0a0b0c0d) ≡ 1 ∷ 2 ∷ 13 ∷ 12 ∷ 11 ∷ 10 ∷ 255 ∷ 128 ∷ []
 put_in_the_middle = refl
+
+-- the first test that is true counts
+first_of_two : first_fault {F = ℕ} ((false, 1) ∷ (true, 2) ∷ (true, 3) ∷ []) ≡ Some 2
+first_of_two = refl
+
+no_fault : first_fault {F = ℕ} ((false, 1) ∷ (false, 2) ∷ []) ≡ None
+no_fault = refl

@@ -76,4 +76,7 @@ fn reads_and_puts_numbers_in_bytes(rt: HostRuntime) {
     }
     put_u32(&mut bytes, 2, 0x1234_5678);
     assert_eq!(rt; bytes, [0xfe, 0xff, 0x78, 0x56, 0x34, 0x12, 0x80]);
+    let mut word = [0; 4];
+    fill_u32(&mut word, 0x9abc_def0);
+    assert_eq!(rt; word, [0xf0, 0xde, 0xbc, 0x9a]);
 }

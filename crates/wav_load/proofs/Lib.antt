@@ -1,3 +1,4 @@
+mod Examples
 pub mod Walking
 pub mod RatioLaws
 pub mod HeaderLaws

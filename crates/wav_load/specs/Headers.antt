@@ -1,5 +1,5 @@
 -- The numbers at the front of an image.
-use Rattle.std.specs.Prelude.{ℕ, ◌≡◌, ◌^◌, ◌<◌, ◌==◌, if◌then◌else◌, List, ◌++◌, Option, Some, None, IfSome, unwrap_or}
+use Rattle.std.specs.Prelude.{ℕ, ◌==◌, if◌then◌else◌, List, ◌++◌, Option, Some, None, unwrap_or}
 use Rattle.base_fields.specs.Fields.{u32_in, u32_bytes}
 use Rattle.wav_load.specs.declared.header.SoundHeader.{SoundHeader}
 
@@ -25,14 +25,3 @@ header_in image = record {
   speed = u32_in image 8;
   width = u32_in image 12;
 }
-
--- its numbers have four bytes, and its start isn't that of no loop
-pub record Fits (header : SoundHeader) : Type 0 where
-  pub length : header.length < 2 ^ 32
-  pub loop_start : IfSome header.loop_start (λ start. start < no_loop)
-  pub speed : header.speed < 2 ^ 32
-  pub width : header.width < 2 ^ 32
-
--- it is the one whose bytes stand at the front
-abbrev pub IsHeaderOf : SoundHeader → List ℕ → Type 0
-IsHeaderOf header image = (written : SoundHeader) (rest : List ℕ) → Fits written → image ≡ header_bytes written ++ rest → header ≡ written

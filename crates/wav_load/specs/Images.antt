@@ -1,5 +1,5 @@
 -- The image of a sound.
-use Rattle.std.specs.Prelude.{ℕ, ◌+◌, ◌*◌, ◌%◌, ◌==◌, if◌then◌else◌, List, ◌++◌, map, option_map, Result, Ok, Err}
+use Rattle.std.specs.Prelude.{ℕ, ◌≡◌, ◌+◌, ◌*◌, ◌%◌, ◌^◌, ◌<◌, ◌==◌, if◌then◌else◌, List, ◌++◌, map, option_map, Result, Ok, Err, IsOkAnd}
 use Rattle.std.specs.List.{flat_map, range_with_len}
 use Rattle.base_fields.specs.Fields.{field}
 use Rattle.wav_load.specs.declared.ratio.Ratio.{Ratio}
@@ -53,3 +53,9 @@ image_from bytes speed (Err fault) = Err fault
 -- the image that these bytes have at this speed, or their first fault
 unfoldable pub image_of : ℕ → List ℕ → Result (List ℕ) WavFault
 image_of speed bytes = image_from bytes speed (sound_in (parts_in bytes) speed)
+
+-- Where the image is that of a source, the header is that of the source's sound.
+abbrev pub TellsSound : SoundHeader → List ℕ → Type 0
+TellsSound header image =
+    (speed : ℕ) (source : List ℕ) → speed < 2 ^ 32 → image_of speed source ≡ Ok image
+    → IsOkAnd (sound_in (parts_in source) speed) (λ sound. header ≡ header_of sound speed)

@@ -1,6 +1,7 @@
 // The numbers at the front of an image.
 ghost use Rattle.std.specs.Prelude.{◌≡◌, ◌≤◌, length};
-ghost use Rattle.wav_load.specs.Headers.{start_of, header_in, header_bytes, IsHeaderOf};
+ghost use Rattle.wav_load.specs.Headers.{start_of, header_in, header_bytes};
+ghost use Rattle.wav_load.specs.Images.{TellsSound};
 
 use base_fields::{fill_u32, u32_at};
 
@@ -43,11 +44,10 @@ fn start_in(word: u32) -> Option<u32>
 }
 
 /// What the image of a sound tells of it.
-#[tactic(auto, using(crate::proofs::HeaderLaws::header_read))]
 pub fn sound_header(image: &[u8]) -> SoundHeader
     requires { 20 ≤ length image.now }
     ensures value { result ≡ header_in image.now }
-    ensures read { IsHeaderOf result image.now }
+    ensures sound { TellsSound result image.now }
 {
     SoundHeader {
         length: u32_at(image, 0),

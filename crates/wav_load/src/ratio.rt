@@ -18,10 +18,7 @@ const POWERS: [u32; 9] = [1, 2, 4, 8, 16, 32, 64, 128, 256];
 fn factor(powers: &[u32], low: u32, high: u32) -> Option<u32>
     ensures { result ≡ find (λ power. low * power == high) powers.now }
 {
-    powers
-        .iter()
-        .copied()
-        .find(|power| u64::from(low) * u64::from(*power) == u64::from(high))
+    powers.iter().copied().find(|power| u64::from(low) * u64::from(*power) == u64::from(high))
 }
 
 impl Ratio {

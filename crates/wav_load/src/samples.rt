@@ -115,7 +115,11 @@ fn repeat_words(block: &mut [u8], input: &[u8], power: usize)
 {
     for i in 0..input.len() / 2 {
         let at = 2 * (i * power);
-        fill_words(&mut block[at..at + 2 * power], input[2 * i], input[2 * i + 1]);
+        fill_words(
+            &mut block[at..at + 2 * power],
+            input[2 * i],
+            input[2 * i + 1],
+        );
     }
 }
 
