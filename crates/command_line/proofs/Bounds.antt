@@ -5,9 +5,9 @@ use Rattle.std.proofs.lemmas.List.{take-map, map_more, length-append}
 use Rattle.std.proofs.lemmas.List.Elements.{All-head, All-tail}
 use Rattle.std.proofs.lemmas.List.Sums.{sum_by-cons}
 use Rattle.command_line.specs.declared.reading.Quantity.{Quantity}
-use Rattle.command_line.specs.declared.reading.Quantity.TheVariants.{Heap, Zone}
+use Rattle.command_line.specs.declared.reading.Quantity.TheVariants.{Heap, Zone, Speed}
 use Rattle.command_line.specs.declared.words.Request.{Request}
-use Rattle.command_line.specs.CommandLine.{least_of, default_of, Setting, IsSetting, option_words, sets, given_or, asked, IsAsked}
+use Rattle.command_line.specs.CommandLine.{least_of, greatest_of, default_of, Setting, IsSetting, option_words, sets, given_or, asked, IsAsked}
 use Rattle.command_line.proofs.Readings.{weight}
 use Rattle.command_line.proofs.Takes.{own_quantity}
 use Rattle.command_line.proofs.Finishes.{length_options}
@@ -23,11 +23,12 @@ next_word bytes_of words number word bytes inside is same =
 -- what the options give a quantity lies in its range
 pub record InRange (quantity : Quantity) (n : ℕ) : Type 0 where
   pub least : least_of quantity ≤ n
-  pub most : n ≤ 65536
+  pub most : n ≤ greatest_of quantity
 
 default_in_range : (quantity : Quantity) → InRange quantity (default_of quantity)
 default_in_range Heap = record { least = lit≤ tt; most = lit≤ tt }
 default_in_range Zone = record { least = lit≤ tt; most = lit≤ tt }
+default_in_range Speed = record { least = lit≤ tt; most = lit≤ tt }
 
 given_in_range : (quantity : Quantity) (settings : List Setting) → All IsSetting settings → InRange quantity (given_or quantity settings)
 given_in_range quantity [] all = default_in_range quantity
@@ -36,32 +37,39 @@ given_in_range quantity (s ∷ settings) all = by (sets quantity s) refl (given_
     by : (b : Bool) → sets quantity s ≡ b → InRange quantity (given_or quantity settings) → InRange quantity (given_or quantity (s ∷ settings))
     by true is later =
         let own = All-head IsSetting s settings all in
-        let here : InRange quantity s.number = record { least = subst (λ q. least_of q ≤ s.number) (own_quantity s.quantity quantity is) own.least; most = own.greatest } in
+        let here : InRange quantity s.number = subst (λ q. InRange q s.number) (own_quantity s.quantity quantity is) (record { least = own.least; most = own.greatest }) in
         rw is here
     by false is later = rw is later
 
-pub range_from_asked : (words : List (List ℕ)) (most : ℕ) (request : Request) → IsAsked words most request → InRange Heap request.heap × InRange Zone request.zone
-range_from_asked words most request a = (
-  subst (λ (r : Request). InRange Heap r.heap) (sym a.asks) (given_in_range Heap a.settings a.line.lawful),
-  subst (λ (r : Request). InRange Zone r.zone) (sym a.asks) (given_in_range Zone a.settings a.line.lawful),
-)
+pub record AreInRange (request : Request) : Type 0 where
+  pub heap : InRange Heap request.heap
+  pub zone : InRange Zone request.zone
+  pub speed : InRange Speed request.speed
 
--- there are two options at most
-length_settings : (settings : List Setting) → length settings ≡ count_by (sets Heap) settings + count_by (sets Zone) settings
+pub ranges_from_asked : (words : List (List ℕ)) (most : ℕ) (request : Request) → IsAsked words most request → AreInRange request
+ranges_from_asked words most request a = subst (λ r. AreInRange r) (sym a.asks) (record {
+  heap = given_in_range Heap a.settings a.line.lawful;
+  zone = given_in_range Zone a.settings a.line.lawful;
+  speed = given_in_range Speed a.settings a.line.lawful;
+})
+
+-- there are three options at most
+length_settings : (settings : List Setting) → length settings ≡ count_by (sets Heap) settings + count_by (sets Zone) settings + count_by (sets Speed) settings
 length_settings [] = refl
 length_settings (s ∷ settings) = by s.quantity refl (length_settings settings)
   where
-    by : (quantity : Quantity) → s.quantity ≡ quantity → length settings ≡ count_by (sets Heap) settings + count_by (sets Zone) settings → length (s ∷ settings) ≡ count_by (sets Heap) (s ∷ settings) + count_by (sets Zone) (s ∷ settings)
-    by quantity is later = omega (arith, later, sum_by-cons (weight Heap) s settings, sum_by-cons (weight Zone) s settings, one_of quantity is)
+    by : (quantity : Quantity) → s.quantity ≡ quantity → length settings ≡ count_by (sets Heap) settings + count_by (sets Zone) settings + count_by (sets Speed) settings → length (s ∷ settings) ≡ count_by (sets Heap) (s ∷ settings) + count_by (sets Zone) (s ∷ settings) + count_by (sets Speed) (s ∷ settings)
+    by quantity is later = omega (arith, later, sum_by-cons (weight Heap) s settings, sum_by-cons (weight Zone) s settings, sum_by-cons (weight Speed) s settings, one_of quantity is)
       where
-        one_of : (quantity : Quantity) → s.quantity ≡ quantity → weight Heap s + weight Zone s ≡ 1
+        one_of : (quantity : Quantity) → s.quantity ≡ quantity → weight Heap s + weight Zone s + weight Speed s ≡ 1
         one_of Heap is = rw is refl
         one_of Zone is = rw is refl
+        one_of Speed is = rw is refl
 
-pub first_from_asked : (words : List (List ℕ)) (most : ℕ) (request : Request) → IsAsked words most request → request.first ≤ 4
+pub first_from_asked : (words : List (List ℕ)) (most : ℕ) (request : Request) → IsAsked words most request → request.first ≤ 6
 first_from_asked words most request a =
-    let first : 2 * length a.settings ≤ 4 = omega (arith, length_settings a.settings, a.line.once Heap, a.line.once Zone) in
-    subst (λ (r : Request). r.first ≤ 4) (sym a.asks) first
+    let first : 2 * length a.settings ≤ 6 = omega (arith, length_settings a.settings, a.line.once Heap, a.line.once Zone, a.line.once Speed) in
+    subst (λ (r : Request). r.first ≤ 6) (sym a.asks) first
 
 -- the folder words are the last ones, and there are 1 to `most` of them
 pub record Counted (count most : ℕ) (request : Request) : Type 0 where

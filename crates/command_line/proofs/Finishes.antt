@@ -6,47 +6,51 @@ use Rattle.std.proofs.lemmas.Bool.{cases_lt}
 use Rattle.std.proofs.lemmas.List.{length-append, take_all}
 use Rattle.base_fields.specs.Numbers.{is_number_word}
 use Rattle.command_line.specs.declared.reading.Quantity.{Quantity}
-use Rattle.command_line.specs.declared.reading.Quantity.TheVariants.{Heap, Zone}
+use Rattle.command_line.specs.declared.reading.Quantity.TheVariants.{Heap, Zone, Speed}
 use Rattle.command_line.specs.declared.reading.Reading.{Reading}
 use Rattle.command_line.specs.declared.words.Request.{Request}
 use Rattle.command_line.specs.CommandLine.{name_of, Setting, IsSetting, option_words, given, IsAsked, IsLawful, IsFront, IsFirstBad}
 use Rattle.command_line.specs.Reading.{waiting, Reads}
 use Rattle.command_line.proofs.Lines.{no_option, Cut, cut, lawful_from_asked, front_from_lawful, front_from_longer}
 use Rattle.command_line.proofs.Readings.{read_folders, read_waiting}
-use Rattle.command_line.proofs.Takes.{takes_folder, takes_heap, takes_zone}
+use Rattle.command_line.proofs.Takes.{takes_folder, takes_number, set_named}
 
 -- each option has two words
 pub length_options : (settings : List Setting) → length (flat_map option_words settings) ≡ 2 * length settings
 length_options [] = refl
 length_options (s ∷ settings) = omega (arith, length_options settings)
 
-abbrev request : ℕ → ℕ → ℕ → ℕ → Request
-request heap zone first folders = record { heap = heap; zone = zone; first = first; folders = folders }
+abbrev request : ℕ → ℕ → ℕ → ℕ → ℕ → Request
+request heap zone speed first folders = record { heap = heap; zone = zone; speed = speed; first = first; folders = folders }
 
 -- with a folder at the end the words ask for what was read
-pub finished : (words : List (List ℕ)) (most : ℕ) (reading : Reading) → Reads words most reading → 1 ≤ reading.folders → IsAsked words most (record { heap = unwrap_or reading.heap 16384; zone = unwrap_or reading.zone 48; first = length words - reading.folders; folders = reading.folders })
+pub finished : (words : List (List ℕ)) (most : ℕ) (reading : Reading) → Reads words most reading → 1 ≤ reading.folders → IsAsked words most (request (unwrap_or reading.heap 16384) (unwrap_or reading.zone 48) (unwrap_or reading.speed 11025) (length words - reading.folders) reading.folders)
 finished words most reading r some = by reading.named refl
   where
-    by : (named : Option Quantity) → reading.named ≡ named → IsAsked words most (record { heap = unwrap_or reading.heap 16384; zone = unwrap_or reading.zone 48; first = length words - reading.folders; folders = reading.folders })
+    by : (named : Option Quantity) → reading.named ≡ named → IsAsked words most (request (unwrap_or reading.heap 16384) (unwrap_or reading.zone 48) (unwrap_or reading.speed 11025) (length words - reading.folders) reading.folders)
     by (Some quantity) named = absurd (omega (arith, some, r.counted, ap length (r.alone quantity named)))
     by None named =
         let joined = r.joined ∙ ap (λ w. flat_map option_words r.settings ++ w) (read_folders words most reading r named) in
         let first : length words - reading.folders ≡ 2 * length r.settings =
         omega (arith, ap length joined, length-append (flat_map option_words r.settings) r.folder_words, length_options r.settings, r.counted) in
+        let heap = unwrap_or (given Heap r.settings) 16384 in
+        let zone = unwrap_or (given Zone r.settings) 48 in
+        let speed = unwrap_or (given Speed r.settings) 11025 in
         record {
           settings = r.settings;
           folders = r.folder_words;
           line = record { joined = joined; lawful = r.lawful; once = r.once; named = r.folders; some = omega (arith, some, r.counted); few = r.few };
           asks =
-              ap (λ h. request h (unwrap_or reading.zone 48) (length words - reading.folders) reading.folders) (ap (λ h. unwrap_or h 16384) r.heap)
-              ∙ ap (λ z. request (unwrap_or (given Heap r.settings) 16384) z (length words - reading.folders) reading.folders) (ap (λ z. unwrap_or z 48) r.zone)
-              ∙ ap (λ f. request (unwrap_or (given Heap r.settings) 16384) (unwrap_or (given Zone r.settings) 48) f reading.folders) first
-              ∙ ap (request (unwrap_or (given Heap r.settings) 16384) (unwrap_or (given Zone r.settings) 48) (2 * length r.settings)) r.counted;
+              ap (λ h. request h (unwrap_or reading.zone 48) (unwrap_or reading.speed 11025) (length words - reading.folders) reading.folders) (ap (λ h. unwrap_or h 16384) (r.numbers Heap))
+              ∙ ap (λ z. request heap z (unwrap_or reading.speed 11025) (length words - reading.folders) reading.folders) (ap (λ z. unwrap_or z 48) (r.numbers Zone))
+              ∙ ap (λ s. request heap zone s (length words - reading.folders) reading.folders) (ap (λ s. unwrap_or s 11025) (r.numbers Speed))
+              ∙ ap (λ f. request heap zone speed f reading.folders) first
+              ∙ ap (request heap zone speed (2 * length r.settings)) r.counted;
         }
 
-pub finished_as : (words : List (List ℕ)) (most : ℕ) (reading : Reading) (heap zone count : ℕ) → heap ≡ unwrap_or reading.heap 16384 → zone ≡ unwrap_or reading.zone 48 → count ≡ length words → Reads words most reading → 1 ≤ reading.folders → IsAsked words most (record { heap = heap; zone = zone; first = count - reading.folders; folders = reading.folders })
-finished_as words most reading heap zone count heap_is zone_is count_is r some =
-    let same : request (unwrap_or reading.heap 16384) (unwrap_or reading.zone 48) (length words - reading.folders) reading.folders ≡ request heap zone (count - reading.folders) reading.folders = cc in
+pub finished_as : (words : List (List ℕ)) (most : ℕ) (reading : Reading) (heap zone speed count : ℕ) → heap ≡ unwrap_or reading.heap 16384 → zone ≡ unwrap_or reading.zone 48 → speed ≡ unwrap_or reading.speed 11025 → count ≡ length words → Reads words most reading → 1 ≤ reading.folders → IsAsked words most (request heap zone speed (count - reading.folders) reading.folders)
+finished_as words most reading heap zone speed count heap_is zone_is speed_is count_is r some =
+    let same : request (unwrap_or reading.heap 16384) (unwrap_or reading.zone 48) (unwrap_or reading.speed 11025) (length words - reading.folders) reading.folders ≡ request heap zone speed (count - reading.folders) reading.folders = cc in
     subst (λ q. IsAsked words most q) same (finished words most reading r some)
 
 -- with none the words are no lawful line
@@ -82,6 +86,7 @@ any_number : (quantity : Quantity) → IsSetting (record { quantity = quantity; 
 unfolding is_number_word
 any_number Heap = record { written = refl; least = lit≤ tt; greatest = lit≤ tt }
 any_number Zone = record { written = refl; least = lit≤ tt; greatest = lit≤ tt }
+any_number Speed = record { written = refl; least = lit≤ tt; greatest = lit≤ tt }
 
 -- the words read so far are the front of a lawful line
 pub front_from_reads : (words : List (List ℕ)) (most : ℕ) (reading : Reading) → 1 ≤ most → Reads words most reading → IsFront words most
@@ -89,12 +94,9 @@ front_from_reads words most reading some r = by reading.named refl
   where
     by : (named : Option Quantity) → reading.named ≡ named → IsFront words most
     by None named = front_at_option words most reading some r named
-    by (Some Heap) named =
-        let next : Reads (words ++ codes "1024" ∷ []) most (record reading { heap = Some 1024; named = None }) = takes_heap words most reading (record { quantity = Heap; word = codes "1024"; number = 1024 }) r named refl (any_number Heap) in
-        front_from_longer words (codes "1024" ∷ []) most (front_at_option (words ++ codes "1024" ∷ []) most (record reading { heap = Some 1024; named = None }) some next refl)
-    by (Some Zone) named =
-        let next : Reads (words ++ codes "1024" ∷ []) most (record reading { zone = Some 1024; named = None }) = takes_zone words most reading (record { quantity = Zone; word = codes "1024"; number = 1024 }) r named refl (any_number Zone) in
-        front_from_longer words (codes "1024" ∷ []) most (front_at_option (words ++ codes "1024" ∷ []) most (record reading { zone = Some 1024; named = None }) some next refl)
+    by (Some quantity) named =
+        let next = takes_number words most reading (record { quantity = quantity; word = codes "1024"; number = 1024 }) r named (any_number quantity) in
+        front_from_longer words (codes "1024" ∷ []) most (front_at_option (words ++ codes "1024" ∷ []) most _ some next (set_named quantity 1024 reading))
 
 -- the word that doesn't go on is the first bad one
 pub bad_word : (words : List (List ℕ)) (most : ℕ) (reading : Reading) (number : ℕ) (word : List ℕ) → 1 ≤ most → number < length words → Reads (take number words) most reading → take (number + 1) words ≡ take number words ++ word ∷ [] → (IsFront (take number words ++ word ∷ []) most → ⊥) → IsFirstBad words most number

@@ -7,7 +7,7 @@ use Rattle.std.proofs.lemmas.List.{append-nil, append_assoc, take-append-drop, t
 use Rattle.std.proofs.lemmas.List.Elements.{All-head, All-tail}
 use Rattle.base_fields.specs.Numbers.{number_of}
 use Rattle.command_line.specs.declared.reading.Quantity.{Quantity}
-use Rattle.command_line.specs.declared.reading.Quantity.TheVariants.{Heap, Zone}
+use Rattle.command_line.specs.declared.reading.Quantity.TheVariants.{Heap, Zone, Speed}
 use Rattle.command_line.specs.declared.words.Request.{Request}
 use Rattle.command_line.specs.declared.words.UsageError.{UsageError}
 use Rattle.command_line.specs.CommandLine.{name_of, Setting, IsSetting, option_words, is_folder_word, IsLine, asked, IsAsked, IsLawful, IsFront, IsFirstBad}
@@ -20,6 +20,7 @@ AreFolders words = All (λ word. IsTrue (is_folder_word word)) words
 pub name_no_folder : (quantity : Quantity) (word : List ℕ) → word ≡ name_of quantity → is_folder_word word ≡ true → ⊥
 name_no_folder Heap word is folder = cc
 name_no_folder Zone word is folder = cc
+name_no_folder Speed word is folder = cc
 
 -- so no words of folders begin with it
 pub no_option : (quantity : Quantity) (rest folders : List (List ℕ)) → AreFolders folders → name_of quantity ∷ rest ≡ folders → ⊥
@@ -31,8 +32,13 @@ no_option quantity rest (word ∷ folders) named same =
 pub same_name : (a b : Quantity) → name_of a ≡ name_of b → a ≡ b
 same_name Heap Heap same = refl
 same_name Heap Zone same = cc
+same_name Heap Speed same = cc
 same_name Zone Heap same = cc
 same_name Zone Zone same = refl
+same_name Zone Speed same = cc
+same_name Speed Heap same = cc
+same_name Speed Zone same = cc
+same_name Speed Speed same = refl
 
 abbrev setting : Quantity → List ℕ → ℕ → Setting
 setting quantity word number = record { quantity = quantity; word = word; number = number }

@@ -9,7 +9,7 @@ use Rattle.std.proofs.lemmas.List.Elements.{All-head, All-tail, All-same}
 use Rattle.std.proofs.lemmas.List.Folds.{find-append}
 use Rattle.std.proofs.lemmas.List.Sums.{sum_by-append, sum_by-cons}
 use Rattle.command_line.specs.declared.reading.Quantity.{Quantity}
-use Rattle.command_line.specs.declared.reading.Quantity.TheVariants.{Heap, Zone}
+use Rattle.command_line.specs.declared.reading.Quantity.TheVariants.{Heap, Zone, Speed}
 use Rattle.command_line.specs.declared.reading.Reading.{Reading}
 use Rattle.command_line.specs.CommandLine.{name_of, Setting, IsSetting, option_words, is_same, sets, is_folder_word, given, IsFront}
 use Rattle.command_line.specs.Reading.{waiting, Reads}
@@ -22,6 +22,7 @@ sets_same quantity s same = subst (λ q. is_same s.quantity q ≡ true) (sym sam
     own : (q : Quantity) → is_same q q ≡ true
     own Heap = refl
     own Zone = refl
+    own Speed = refl
 
 -- how often a quantity is set, with one option more
 abbrev pub weight : Quantity → Setting → ℕ

@@ -3,23 +3,32 @@ use Rattle.std.specs.Prelude.{◌≡◌, ℕ, ◌+◌, ◌*◌, ◌<◌, ◌≤�
 use Rattle.std.specs.List.{flat_map}
 use Rattle.base_fields.specs.Numbers.{number_of}
 use Rattle.command_line.specs.declared.reading.Quantity.{Quantity}
-use Rattle.command_line.specs.declared.reading.Quantity.TheVariants.{Heap, Zone}
+use Rattle.command_line.specs.declared.reading.Quantity.TheVariants.{Heap, Zone, Speed}
 use Rattle.command_line.specs.declared.words.Request.{Request}
 
 -- the name of the option that sets a quantity
 abbrev pub name_of : Quantity → List ℕ
 name_of Heap = codes "-heapsize"
 name_of Zone = codes "-zone"
+name_of Speed = codes "-speed"
 
--- the least number of KB that it may be; the greatest is 65536
+-- the least number that it may be, of KB or of Hz
 abbrev pub least_of : Quantity → ℕ
 least_of Heap = 1024
 least_of Zone = 4
+least_of Speed = 1000
 
--- and how many it is where no option sets it
+-- the greatest
+abbrev pub greatest_of : Quantity → ℕ
+greatest_of Heap = 65536
+greatest_of Zone = 65536
+greatest_of Speed = 96000
+
+-- and what it is where no option sets it
 abbrev pub default_of : Quantity → ℕ
 default_of Heap = 16384
 default_of Zone = 48
+default_of Speed = 11025
 
 -- a quantity that is set: the word behind the option's name, and the number that it writes
 pub record Setting : Type 0 where
@@ -31,7 +40,7 @@ pub record Setting : Type 0 where
 pub record IsSetting (s : Setting) : Type 0 where
   pub written : number_of s.word ≡ Some s.number
   pub least : least_of s.quantity ≤ s.number
-  pub greatest : s.number ≤ 65536
+  pub greatest : s.number ≤ greatest_of s.quantity
 
 -- the two words of the option
 abbrev pub option_words : Setting → List (List ℕ)
@@ -41,6 +50,7 @@ option_words s = name_of s.quantity ∷ s.word ∷ []
 abbrev pub is_same : Quantity → Quantity → Bool
 is_same Heap Heap = true
 is_same Zone Zone = true
+is_same Speed Speed = true
 is_same a b = false
 
 abbrev pub sets : Quantity → Setting → Bool
@@ -72,6 +82,7 @@ abbrev pub asked : List Setting → List (List ℕ) → Request
 asked settings folders = record {
   heap = given_or Heap settings;
   zone = given_or Zone settings;
+  speed = given_or Speed settings;
   first = 2 * length settings;
   folders = length folders;
 }

@@ -3,9 +3,21 @@ use Rattle.std.specs.Prelude.{◌≡◌, ℕ, ◌≤◌, IsTrue, List, [], ◌�
 use Rattle.std.specs.List.{flat_map}
 use Rattle.std.specs.Option.{ForSome}
 use Rattle.command_line.specs.declared.reading.Quantity.{Quantity}
-use Rattle.command_line.specs.declared.reading.Quantity.TheVariants.{Heap, Zone}
+use Rattle.command_line.specs.declared.reading.Quantity.TheVariants.{Heap, Zone, Speed}
 use Rattle.command_line.specs.declared.reading.Reading.{Reading}
 use Rattle.command_line.specs.CommandLine.{name_of, Setting, IsSetting, option_words, sets, is_folder_word, given, IsFront}
+
+-- the number that a quantity was given
+abbrev pub set_to : Quantity → Reading → Option ℕ
+set_to Heap reading = reading.heap
+set_to Zone reading = reading.zone
+set_to Speed reading = reading.speed
+
+-- this number for a quantity, and no option that waits for one
+abbrev pub with_set : Quantity → ℕ → Reading → Reading
+with_set Heap number reading = record reading { heap = Some number; named = None }
+with_set Zone number reading = record reading { zone = Some number; named = None }
+with_set Speed number reading = record reading { speed = Some number; named = None }
 
 -- the name of an option that waits for its number
 abbrev pub waiting : Option Quantity → List (List ℕ)
@@ -21,8 +33,7 @@ pub record Reads (words : List (List ℕ)) (most : ℕ) (reading : Reading) : Ty
   pub once : (quantity : Quantity) → count_by (sets quantity) settings ≤ 1
   pub unset : ForSome reading.named (λ quantity. count_by (sets quantity) settings ≡ 0)
   pub alone : ForSome reading.named (λ quantity. folder_words ≡ [])
-  pub heap : reading.heap ≡ given Heap settings
-  pub zone : reading.zone ≡ given Zone settings
+  pub numbers : (quantity : Quantity) → set_to quantity reading ≡ given quantity settings
   pub folders : All (λ word. IsTrue (is_folder_word word)) folder_words
   pub counted : reading.folders ≡ length folder_words
   pub few : length folder_words ≤ most

@@ -1,7 +1,7 @@
 // The words, read one after another.
 ghost use Rattle.std.specs.Prelude.{◌≡◌, ◌≢◌, ℕ, List, Some, None, MatchOption};
-ghost use Rattle.command_line.specs.CommandLine.{name_of, IsSetting, is_folder_word, given};
-ghost use Rattle.command_line.specs.Reading.{Reads, ReadsMore};
+ghost use Rattle.command_line.specs.CommandLine.{name_of, least_of, greatest_of, IsSetting, is_folder_word};
+ghost use Rattle.command_line.specs.Reading.{set_to, with_set, ReadsMore};
 
 use base_fields::decimal;
 
@@ -12,6 +12,8 @@ pub(crate) enum Quantity {
     Heap,
     /// The zone's size in KB.
     Zone,
+    /// The output speed of sounds in Hz.
+    Speed,
 }
 
 impl Quantity {
@@ -24,8 +26,21 @@ impl Quantity {
             Some(Quantity::Heap)
         } else if word == b"-zone".as_slice() {
             Some(Quantity::Zone)
+        } else if word == b"-speed".as_slice() {
+            Some(Quantity::Speed)
         } else {
             None
+        }
+    }
+
+    // The least number and the greatest that it may be.
+    fn range(self) -> (u32, u32)
+        ensures { result ≡ (least_of self, greatest_of self) }
+    {
+        match self {
+            Quantity::Heap => (1024, 65536),
+            Quantity::Zone => (4, 65536),
+            Quantity::Speed => (1000, 96000),
         }
     }
 
@@ -34,12 +49,9 @@ impl Quantity {
         ensures { MatchOption result ((n : ℕ) → IsSetting (record { quantity = self; word = word.now; number = n }) → ⊥)
             (λ n. IsSetting (record { quantity = self; word = word.now; number = n })) }
     {
-        let least = match self {
-            Quantity::Heap => 1024,
-            Quantity::Zone => 4,
-        };
+        let (least, greatest) = self.range();
         match decimal(word) {
-            Ok(number) if least <= number && number <= 65536 => Some(number),
+            Ok(number) if least <= number && number <= greatest => Some(number),
             _ => None,
         }
     }
@@ -50,6 +62,7 @@ impl Quantity {
 pub(crate) struct Reading {
     pub(crate) heap: Option<u32>,
     pub(crate) zone: Option<u32>,
+    pub(crate) speed: Option<u32>,
     // The option whose number comes next.
     pub(crate) named: Option<Quantity>,
     pub(crate) folders: usize,
@@ -57,11 +70,12 @@ pub(crate) struct Reading {
 
 impl Reading {
     pub(crate) fn new() -> Reading
-        ensures { result ≡ record { heap = None; zone = None; named = None; folders = 0 } }
+        ensures { result ≡ record { heap = None; zone = None; speed = None; named = None; folders = 0 } }
     {
         Reading {
             heap: None,
             zone: None,
+            speed: None,
             named: None,
             folders: 0,
         }
@@ -82,11 +96,36 @@ impl Reading {
 
     // The number that a quantity was given.
     fn given(self, quantity: Quantity) -> Option<u32>
-        ensures { (words : List (List ℕ)) (most : ℕ) (read : Reads words most self) → result ≡ given quantity read.settings }
+        ensures { result ≡ set_to quantity self }
     {
         match quantity {
             Quantity::Heap => self.heap,
             Quantity::Zone => self.zone,
+            Quantity::Speed => self.speed,
+        }
+    }
+
+    // With this number for a quantity, and no option that waits for one.
+    fn with_set(self, quantity: Quantity, number: u32) -> Reading
+        ensures { result ≡ with_set quantity number self }
+    {
+        let read = Reading {
+            named: None,
+            ..self
+        };
+        match quantity {
+            Quantity::Heap => Reading {
+                heap: Some(number),
+                ..read
+            },
+            Quantity::Zone => Reading {
+                zone: Some(number),
+                ..read
+            },
+            Quantity::Speed => Reading {
+                speed: Some(number),
+                ..read
+            },
         }
     }
 
@@ -96,20 +135,7 @@ impl Reading {
         ensures { (most : ℕ) → ReadsMore self word.now most result }
     {
         let number = quantity.number(word)?;
-        let read = Reading {
-            named: None,
-            ..self
-        };
-        Some(match quantity {
-            Quantity::Heap => Reading {
-                heap: Some(number),
-                ..read
-            },
-            Quantity::Zone => Reading {
-                zone: Some(number),
-                ..read
-            },
-        })
+        Some(self.with_set(quantity, number))
     }
 
     // With the name of an option that isn't given yet.

@@ -13,27 +13,28 @@ fn strings(alloc: Global, words: &[&str]) -> Result<Vec<String>, AllocError> {
 #[test]
 fn words_ask_or_break_the_rule(rt: HostRuntime) -> Result<(), Fail> {
     let alloc = rt.alloc();
-    let asked = |heap, zone, first, folders| {
+    let asked = |heap, zone, speed, first, folders| {
         Ok(Request {
             heap,
             zone,
+            speed,
             first,
             folders,
         })
     };
     let usage = |word| Err(UsageError { word });
-    let cases: [(&[&str], Result<Request, UsageError>); 24] = [
+    let cases: [(&[&str], Result<Request, UsageError>); 30] = [
         (&[], usage(0)),
-        (&["d"], asked(16384, 48, 0, 1)),
-        (&["d", "e"], asked(16384, 48, 0, 2)),
+        (&["d"], asked(16384, 48, 11025, 0, 1)),
+        (&["d", "e"], asked(16384, 48, 11025, 0, 2)),
         (&["d", "e", "f"], usage(2)),
         (
             &["-zone", "1024", "-heapsize", "1024", "d"],
-            asked(1024, 1024, 4, 1),
+            asked(1024, 1024, 11025, 4, 1),
         ),
         (
             &["-heapsize", "65536", "-zone", "0004", "d"],
-            asked(65536, 4, 4, 1),
+            asked(65536, 4, 11025, 4, 1),
         ),
         (&["-zone", "65536", "d", "-"], usage(3)),
         (&["-heapsize"], usage(1)),
@@ -47,7 +48,16 @@ fn words_ask_or_break_the_rule(rt: HostRuntime) -> Result<(), Fail> {
         (&["-zone", "+48", "d"], usage(1)),
         (&["-zone", "48", "-zone", "48", "d"], usage(2)),
         (&["-zone", "48", "-heapsize"], usage(3)),
-        (&["-zone", "48", "-speed", "11025", "d"], usage(2)),
+        (
+            &["-speed", "96000", "-zone", "48", "-heapsize", "2048", "d"],
+            asked(2048, 48, 96000, 6, 1),
+        ),
+        (&["-speed", "1000", "d"], asked(16384, 48, 1000, 2, 1)),
+        (&["-speed", "999", "d"], usage(1)),
+        (&["-speed", "96001", "d"], usage(1)),
+        (&["-speed", "11025", "-speed", "11025", "d"], usage(2)),
+        (&["-speed", "-zone", "d"], usage(1)),
+        (&["-Speed", "11025", "d"], usage(0)),
         (&["-heapsize ", "1024", "d"], usage(0)),
         (&["-"], usage(0)),
         (&[""], usage(0)),

@@ -145,9 +145,10 @@ fn run<F: Folder, S: Source, O: Sink>(
 
 /// Mounts folders, runs a script over them, and puts the replies to its commands.
 ///
-/// The words are the options `-heapsize` and `-zone`, each with a number of KB, at most once and in any order, and then the
-/// words of 1 to 8 folders, which aren't empty and don't begin with `-`. A heap has 1024 to 65536 KB, and 16384 where none
-/// is asked for; a zone has 4 to 65536, and 48. `Usage` tells the number of the first word that breaks this, or the number
+/// The words are the options `-heapsize` and `-zone`, each with a number of KB, and `-speed` with one of Hz, each at most
+/// once and in any order, and then the words of 1 to 8 folders, which aren't empty and don't begin with `-`. A heap has
+/// 1024 to 65536 KB, and 16384 where none is asked for; a zone has 4 to 65536, and 48; the speed is 1000 to 96000, and
+/// 11025. Nothing that a script does yet depends on the speed. `Usage` tells the number of the first word that breaks this, or the number
 /// of words where one is missing; `TooSmall` says that the zone's block exceeds the heap. Both come before memory is taken,
 /// anything is read or anything is put. The folder of number i stands for word i; those of the other words are dropped
 /// unused. There must be fewer than 2^32 words.

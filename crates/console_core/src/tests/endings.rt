@@ -108,7 +108,7 @@ fn faulty_words_leave_all_untouched(rt: HostRuntime) -> Result<(), Fail> {
     let small = "heap too small";
     let cases: [(&[&str], u8, &str, Option<u32>); 9] = [
         (&[], 1, usage, Some(0)),
-        (&["-speed", "11025", "d"], 1, usage, Some(0)),
+        (&["-speed", "999", "d"], 1, usage, Some(1)),
         (&["-heapsize", "12", "d"], 1, usage, Some(1)),
         (&["d", "-zone"], 1, usage, Some(1)),
         (
