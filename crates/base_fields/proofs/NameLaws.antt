@@ -1,12 +1,13 @@
 -- What a lawful name has.
-use Rattle.std.proofs.Common.{◌≡◌, ◌≢◌, ℕ, ◌<◌, ◌≤◌, Bool, true, false, not, ◌&&◌, ◌==◌, nat_le, nat_eq, cond, All, List, [], length, codes, Some, None, refl, lit<, lit≤, arith}
+use Rattle.std.proofs.Common.{◌≡◌, ◌≢◌, ℕ, ◌<◌, ◌≤◌, Bool, true, false, not, ◌&&◌, ◌==◌, nat_le, nat_eq, cond, All, List, [], ◌∷◌, ◌++◌, ◌+◌, length, length-append, codes, Some, None, refl, lit<, lit≤, arith}
 use Rattle.std.specs.List.{list_all, starts_with}
 use Rattle.std.proofs.lemmas.Bool.{and_parts}
 use Rattle.std.proofs.lemmas.Bool.Decides.{nat_tests}
 use Rattle.std.proofs.lemmas.List.Elements.{All-weaker, All-take, All-drop, All-nil, All-cons}
+use Rattle.std.proofs.lemmas.List.{append_assoc}
 use Rattle.std.proofs.lemmas.List.Sums.{AllPass-from_list_all}
 use Rattle.std.proofs.lemmas.Grind.{common_steps}
-use Rattle.base_fields.specs.Names.{is_name_byte, steps_up, is_game_name, lawful_name, stem_of, base_of}
+use Rattle.base_fields.specs.Names.{is_name_byte, steps_up, is_game_name, lawful_name, joined_name, stem_of, base_of}
 
 -- a lawful name passes each of the tests
 pub tests_from_name : (word : List ℕ) → is_game_name word ≡ true → ((nat_le 1 (length word) && nat_le (length word) 63) ≡ true) × (list_all is_name_byte word ≡ true) × (not (starts_with nat_eq word (codes "/")) ≡ true) × (not (steps_up word) ≡ true)
@@ -20,6 +21,35 @@ tests_from_name word is =
 -- a lawful name has 1 to 63 bytes
 pub length_from_name : (word : List ℕ) → is_game_name word ≡ true → (0 < length word) × (length word ≤ 63)
 length_from_name word is = let sized = (tests_from_name word is).0 in grind (arith, nat_tests, sized)
+
+-- more than 63 bytes are none
+pub no_long_name : (word : List ℕ) → 63 < length word → is_game_name word ≡ false
+no_long_name word long = by (is_game_name word) refl
+  where
+    by : (b : Bool) → is_game_name word ≡ b → is_game_name word ≡ false
+    by true is = absurd (omega (arith, long, (length_from_name word is).1))
+    by false is = is
+
+-- bytes that are no lawful name don't become one where they are put together, and an empty word becomes none
+pub joined_none : (front word back : List ℕ) → is_game_name (front ++ (word ++ back)) ≡ false → joined_name front word back ≡ None
+joined_none front [] back is = refl
+joined_none front (byte ∷ word) back is = rw is
+
+pub joined_empty : (front word back : List ℕ) → length word ≡ 0 → joined_name front word back ≡ None
+joined_empty front [] back none = refl
+joined_empty front (byte ∷ word) back none = absurd (omega (arith, none))
+
+pub joined_long : (front word back : List ℕ) → 63 < length front + length word + length back → joined_name front word back ≡ None
+joined_long front word back long = joined_none front word back (no_long_name (front ++ (word ++ back)) (omega (arith, long, length-append front (word ++ back), length-append word back)))
+
+pub joined_past : (front word back : List ℕ) → 63 < length (front ++ word) + length back → joined_name front word back ≡ None
+joined_past front word back long = joined_long front word back (omega (arith, long, length-append front word))
+
+pub joined_some : (front word back : List ℕ) → (length word ≡ 0 → ⊥) → is_game_name (front ++ (word ++ back)) ≡ true → joined_name front word back ≡ Some (front ++ (word ++ back))
+joined_some front [] back some is = absurd (some refl)
+joined_some front (byte ∷ word) back some is = rw is
+
+pub ruleset joining = (joined_none, joined_empty, joined_long, joined_past, joined_some, length_from_name, append_assoc)
 
 -- no byte of a name is zero
 some_byte : (byte : ℕ) → is_name_byte byte ≡ true → byte ≢ 0

@@ -1,5 +1,5 @@
 -- The lawful names of game files, and the base of a name.
-use Rattle.std.specs.Prelude.{ℕ, Bool, not, ◌&&◌, ◌==◌, nat_eq, nat_le, if◌then◌else◌, List, length, Option, Some, None, bytes_eq, codes}
+use Rattle.std.specs.Prelude.{ℕ, Bool, not, ◌&&◌, ◌==◌, nat_eq, nat_le, if◌then◌else◌, List, [], ◌++◌, length, Option, Some, None, bytes_eq, codes}
 use Rattle.std.specs.List.{list_all, list_any, starts_with, slice_split, after_last, before_first}
 
 -- the byte `/`
@@ -29,6 +29,11 @@ is_game_name word =
 -- the word, where it is the name of a game file
 abbrev pub lawful_name : List ℕ → Option (List ℕ)
 lawful_name word = if is_game_name word then Some word else None
+
+-- the word, which isn't empty, with what stands in front of it and behind it, where they are the name of a game file
+abbrev pub joined_name : (front word back : List ℕ) → Option (List ℕ)
+joined_name front [] back = None
+joined_name front word back = lawful_name (front ++ (word ++ back))
 
 -- the part after the last slash, up to its first dot
 abbrev pub stem_of : List ℕ → List ℕ

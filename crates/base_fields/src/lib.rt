@@ -8,7 +8,7 @@ mod numbers;
 mod texts;
 
 pub use fields::{fill_u32, i16_at, i32_at, put_u32, u16_at, u32_at};
-pub use names::{BadName, GameName, game_name, has_step_up};
+pub use names::{BadName, GameName, game_name, has_step_up, joined};
 pub use numbers::{BadNumber, decimal};
 pub use texts::before_zero;
 

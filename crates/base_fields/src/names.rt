@@ -1,8 +1,9 @@
 // The names of game files.
-ghost use Rattle.std.specs.Prelude.{◌≡◌, ◌≢◌, ◌<◌, ◌≤◌, ℕ, false, IsTrue, MatchOption, All, EachIndex, length, slice_index};
+ghost use Rattle.std.specs.Prelude.{◌≡◌, ◌≢◌, ◌<◌, ◌≤◌, ◌+◌, ℕ, false, IsTrue, MatchOption, OnOk, OnErr, All, EachIndex};
+ghost use Rattle.std.specs.Prelude.{◌++◌, length, slice_index};
 ghost use Rattle.std.specs.Result.{result_ok};
 ghost use Rattle.std.specs.List.{after_last, before_first, list_all};
-ghost use Rattle.base_fields.specs.Names.{is_slash, is_dot, is_name_byte, is_game_name, steps_up, lawful_name, base_of};
+ghost use Rattle.base_fields.specs.Names.{is_slash, is_dot, is_name_byte, is_game_name, steps_up, lawful_name, joined_name, base_of};
 
 use arrayvec::ArrayVec;
 use std::marker::Model;
@@ -63,6 +64,36 @@ pub fn game_name(word: &[u8]) -> Result<GameName, BadName>
     }
     let word = ArrayVec::try_from(word).unwrap();
     Ok(GameName { word })
+}
+
+/// The word as a name, with what stands in front of it and behind it. It is refused where the word is empty, and where
+/// the bytes together are no lawful name.
+#[tactic(auto, using(crate::proofs::NameLaws::joining))]
+pub fn joined(front: &[u8], word: &[u8], back: &[u8]) -> Result<GameName, BadName>
+    ensures { joined_name front.now word.now back.now ≡ result_ok result }
+{
+    if word.is_empty() {
+        return Err(BadName);
+    }
+    let mut bytes = ArrayVec::<u8, 63>::new();
+    add(&mut bytes, front)?;
+    add(&mut bytes, word)?;
+    add(&mut bytes, back)?;
+    if !is_lawful(bytes.as_slice()) {
+        return Err(BadName);
+    }
+    Ok(GameName { word: bytes })
+}
+
+// Adds bytes to those of a name. They are refused where there are too many.
+fn add(bytes: &mut ArrayVec<u8, 63>, part: &[u8]) -> Result<(), BadName>
+    ensures added { OnOk result (bytes.new.items ≡ bytes.old.items ++ part.now) }
+    ensures full { OnErr result (63 < length bytes.old.items + length part.now) }
+{
+    match bytes.try_extend_from_slice(part) {
+        Ok(()) => Ok(()),
+        Err(_) => Err(BadName),
+    }
 }
 
 #[tactic(auto, unfolding(crate::specs::Names::is_game_name))]

@@ -2,6 +2,9 @@ use super::*;
 
 const LONGEST: &str = "a23456789b123456789c123456789d123456789e123456789f123456789g123";
 
+// The first 59 bytes of that one, and the ending of a map.
+const LONGEST_MAP: &str = "a23456789b123456789c123456789d123456789e123456789f123456789.bsp";
+
 #[test]
 fn takes_the_lawful_names(rt: HostRuntime) {
     let lawful = ["a", "a//b", "./a", "..a", "a/...", "a ~", "a/", LONGEST];
@@ -19,6 +22,34 @@ fn takes_the_lawful_names(rt: HostRuntime) {
     }
     let too_long = [b'a'; 64];
     assert!(rt; game_name(&too_long).is_err());
+}
+
+#[test]
+fn joins_the_lawful_names(rt: HostRuntime) {
+    let cases = [
+        ("sound/", "a.wav", "", Some("sound/a.wav")),
+        ("maps/", "m0", ".bsp", Some("maps/m0.bsp")),
+        ("", "a", "", Some("a")),
+        ("", &LONGEST[..59], ".bsp", Some(LONGEST_MAP)),
+        ("", &LONGEST[..60], ".bsp", None),
+        ("sound/", &LONGEST[..58], "", None),
+        ("sound/", "", "", None),
+        ("maps/", "", ".bsp", None),
+        ("maps/", "../m0", ".bsp", None),
+        (".", ".", "", None),
+        ("", "/a", "", None),
+        ("sound/", "a b", "\0", None),
+    ];
+    for (front, word, back, want) in cases {
+        match joined(front.as_bytes(), word.as_bytes(), back.as_bytes()) {
+            Ok(name) => assert_eq!(rt;
+                Some(name.bytes()),
+                want.map(|name| name.as_bytes()),
+                "at {word}"
+            ),
+            Err(BadName) => assert!(rt; want.is_none(), "refused {word}"),
+        }
+    }
 }
 
 #[test]
