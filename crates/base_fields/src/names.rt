@@ -1,11 +1,15 @@
 // The names of game files.
 ghost use Rattle.std.specs.Prelude.{◌≡◌, ◌≢◌, ◌<◌, ◌≤◌, ◌+◌, ℕ, false, IsTrue, MatchOption, OnOk, OnErr, All, EachIndex};
-ghost use Rattle.std.specs.Prelude.{◌++◌, length, slice_index};
+ghost use Rattle.std.specs.Prelude.{◌++◌, ◌∷◌, [], List, nat_eq, length, slice_index};
+ghost use Rattle.std.proofs.Common.{ap};
+ghost use Rattle.std.specs.Cmp.{partial_equiv_from_equiv};
+ghost use Rattle.std.specs.Cmp.Lexicographic.{pointwise, bytes_decides, nat_list_eq_equiv};
 ghost use Rattle.std.specs.Result.{result_ok};
 ghost use Rattle.std.specs.List.{after_last, before_first, list_all};
 ghost use Rattle.base_fields.specs.Names.{is_slash, is_dot, is_name_byte, is_game_name, steps_up, lawful_name, joined_name, base_of};
 
 use arrayvec::ArrayVec;
+use std::hash::{Hash, Hasher};
 use std::marker::Model;
 
 /// The bytes of a word are not the name of a game file.
@@ -29,7 +33,40 @@ impl Model for GameName {
     ghost invariant = { λ a. IsTrue (is_game_name a.word.items) };
 }
 
+impl PartialEq for GameName {
+    ghost eq = { pointwise nat_eq };
+
+    ghost laws = { partial_equiv_from_equiv nat_list_eq_equiv };
+
+    fn eq(&self, other: &Self) -> bool {
+        self.bytes() == other.bytes()
+    }
+}
+
+impl Eq for GameName {
+    ghost laws = { nat_list_eq_equiv };
+}
+
+// A name is hashed in one write, where a slice would be byte by byte.
+impl Hash for GameName {
+    ghost hash_input = { λ name. name ∷ [] };
+
+    ghost respects_eq = { λ x y same. ap (λ (bytes : List ℕ). bytes ∷ []) ((bytes_decides x y).0 same) };
+
+    fn hash<H: Hasher>(&self, state: &mut H) {
+        state.write(self.bytes());
+    }
+}
+
 impl GameName {
+    /// The same name once more.
+    pub fn copied(&self) -> GameName
+        ensures { result ≡ self.now }
+    {
+        let word = ArrayVec::try_from(self.bytes()).unwrap();
+        GameName { word }
+    }
+
     /// The bytes of the name.
     pub fn bytes(&self) -> &[u8]
         ensures value { result.now ≡ self.now }
