@@ -53,6 +53,17 @@ fn joins_the_lawful_names(rt: HostRuntime) {
 }
 
 #[test]
+fn a_name_is_known_by_its_bytes(rt: HostRuntime) {
+    if let (Ok(name), Ok(other)) = (game_name(b"a/b"), game_name(b"a/B")) {
+        assert_eq!(rt; name.copied(), name);
+        assert!(rt; name != other);
+        assert_eq!(rt; name.copied().bytes(), b"a/b".as_slice());
+        return;
+    }
+    assert!(rt; false, "refused");
+}
+
+#[test]
 fn cuts_the_base(rt: HostRuntime) {
     let cases = [
         ("maps/m0.bsp", "m0"),

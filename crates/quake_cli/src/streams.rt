@@ -132,6 +132,7 @@ impl Sink for StdoutSink {
     }
 
     fn flush(&mut self)
+        ensures handed_on { length self.new.held.items ≡ 0 }
         ensures faults { self.old.faults ≤ self.new.faults }
     {
         if self.failed {
