@@ -13,11 +13,11 @@ use Rattle.mem_model.specs.Places.{hunk_need, cache_need, round_up}
 use Rattle.mem_model.specs.Hunk.{hunk_block, with_low, with_high, without_temp, temp_freed, cut_from, cut_above, low_bytes, with_low_bytes, bytes_above, temp_bytes, temp_bytes_of}
 use Rattle.mem_model.specs.Zone.{zone_bytes, used_bytes_from}
 use Rattle.mem_model.specs.Cache.{pushed_up, pushed_down, peek_bytes, without, touched, block_of, with_new, new_block, without_user}
-use Rattle.mem_model.specs.Answer.{Answered, Answers, Gives, with_event}
+use Rattle.mem_model.specs.Answer.{Answered, Gives, with_event}
 use Rattle.mem_model.specs.Operations.{low_alloc, low_free, low_cut, high_taken, high_alloc, high_free, high_cut, high_mark, temp_alloc, z_alloc, z_free, cache_alloc, check, cache_free, flush, build_low, build_cache, copy_low_to_cache, shortage}
 use Rattle.mem_model.specs.Images.{front_of}
 use Rattle.mem_model.specs.Laid.{Laid, IsText, IsHunkBlock, IsCache, IsCacheBlock, count_in, users_of}
-use Rattle.mem_model.specs.Keeps.{held, unplaced, IsNot, KeepsUsers, beside_low, beside_high, beside_zone, beside_cache}
+use Rattle.mem_model.specs.Keeps.{held, unplaced, KeepsUsers, beside_low, beside_high, beside_zone, beside_cache}
 use Rattle.mem_model.proofs.CacheBlocks.{find-none, find-some, count-gone, count-stays}
 use Rattle.mem_model.proofs.CacheImages.{Laid-build_cache, Laid-copy_low_to_cache, beside-build_cache, beside-copy_low_to_cache, front-cache_built, front-copied, has-build_cache, has-copy_low_to_cache, held-build_cache, held-copy_low_to_cache, keeps-build_cache, keeps-copy_low_to_cache, peek_bytes-build_cache, peek_bytes-built, peek_bytes-copied, peek_bytes-copy_low_to_cache, peek_place-build_cache, peek_place-copy_low_to_cache, recency-build_cache, recency-copy_low_to_cache}
 use Rattle.mem_model.proofs.CacheMoves.{KeepsHeld, later-pushed_up, later-pushed_down, later-without}
@@ -570,24 +570,14 @@ peek_bytes-held c user b h = shown (block_of c user) h where
   shown None e = absurd (cc)
   shown (Some x) e = (let same : unplaced x ≡ b = cc in ap (λ (y : CacheBlock). Some y.bytes) same)
 
--- the same of a call that always answers
-pub keeps_answer : {A : Type 0} {new : Option ℕ} {before after : Memory} {given : Answered A} {reply : A} → Answers given reply after → KeepsUsers new before given.after → KeepsUsers new before after
-keeps_answer {new = new} {before = before} a k = subst (KeepsUsers new before) (sym a.after) k
-
+-- the block of which the bytes are shown
 pub block_shown : (o : Option CacheBlock) (bytes : List ℕ) → option_map (λ (x : CacheBlock). x.bytes) o ≡ Some bytes → (b : CacheBlock) × (o ≡ Some b) × (b.bytes ≡ bytes)
 block_shown None bytes e = absurd (cc)
 block_shown (Some b) bytes e = (b, refl, (let same : b.bytes ≡ bytes = cc in same))
-
--- What a user's block shows after is what it showed before, wherever it moved.
-pub peek_bytes-kept : (new : Option ℕ) (before after : Memory) (user : ℕ) (bytes : List ℕ) → KeepsUsers new before after → IsNot new user → peek_bytes after.cache user ≡ Some bytes → peek_bytes before.cache user ≡ Some bytes
-unfolding held peek_bytes
-peek_bytes-kept new before after user bytes kept other h =
-    let b = block_shown (block_of after.cache user) bytes h in
-    peek_bytes-held before.cache user (unplaced b.0) (kept.others user (unplaced b.0) other (ap (option_map unplaced) b.1)) ∙ ap Some b.2
 
 pub keeps-without_temp : (m : Memory) → Laid m → KeepsUsers None m (without_temp m)
 keeps-without_temp m laid = (sound-without_temp m laid).keeps
 
 -- For callers, as `#[tactic(auto, using(mem_model::proofs::CacheLaws::cache_laws))]` or one by one: the number of users,
 -- what users hold through calls that may move their blocks, and the bytes of each part through calls of another.
-pub ruleset cache_laws = (users-low_alloc, users-low_free, users-high_alloc, users-high_mark, users-high_free, users-temp_alloc, users-cache_alloc, users-check, users-cache_free, users-flush, held-new, peek_bytes-held, peek_bytes-kept, keeps_users_all, keeps_users_more, keeps_answer, keeps-without_temp, keeps-low_alloc, keeps-low_free, keeps-high_alloc, keeps-high_mark, keeps-high_free, keeps-temp_alloc, keeps-z_alloc, keeps-z_free, keeps-cache_alloc, keeps-check, keeps-cache_free, keeps-flush, beside-low_alloc, beside-low_free, beside-high_alloc, beside-high_mark, beside-high_free, beside-temp_alloc, beside-z_alloc, beside-z_free, beside-cache_alloc, beside-check, beside-cache_free, beside-flush, low_bytes-beside_high, low_bytes-beside_zone, low_bytes-beside_cache, temp_bytes-beside_low, temp_bytes-beside_zone, temp_bytes-beside_cache, zone_bytes-beside_low, zone_bytes-beside_high, zone_bytes-beside_cache, users-build_low, users-build_cache, users-copy_low_to_cache, keeps-build_low, keeps-build_cache, keeps-copy_low_to_cache, cache-build_low, beside-build_low, beside-build_cache, beside-copy_low_to_cache, Laid-build_cache, Laid-copy_low_to_cache, temp_bytes-small, has_bytes, peek_bytes-built, peek_bytes-copied, front-cache_built, front-copied, image_there, held-build_cache, held-copy_low_to_cache, peek_bytes-build_cache, peek_bytes-copy_low_to_cache, peek_place-build_cache, peek_place-copy_low_to_cache, has-build_cache, has-copy_low_to_cache, recency-build_cache, recency-copy_low_to_cache)
+pub ruleset cache_laws = (users-low_alloc, users-low_free, users-high_alloc, users-high_mark, users-high_free, users-temp_alloc, users-cache_alloc, users-check, users-cache_free, users-flush, held-new, peek_bytes-held, keeps_users_all, keeps_users_more, keeps-without_temp, keeps-low_alloc, keeps-low_free, keeps-high_alloc, keeps-high_mark, keeps-high_free, keeps-temp_alloc, keeps-z_alloc, keeps-z_free, keeps-cache_alloc, keeps-check, keeps-cache_free, keeps-flush, beside-low_alloc, beside-low_free, beside-high_alloc, beside-high_mark, beside-high_free, beside-temp_alloc, beside-z_alloc, beside-z_free, beside-cache_alloc, beside-check, beside-cache_free, beside-flush, low_bytes-beside_high, low_bytes-beside_zone, low_bytes-beside_cache, temp_bytes-beside_low, temp_bytes-beside_zone, temp_bytes-beside_cache, zone_bytes-beside_low, zone_bytes-beside_high, zone_bytes-beside_cache, users-build_low, users-build_cache, users-copy_low_to_cache, keeps-build_low, keeps-build_cache, keeps-copy_low_to_cache, cache-build_low, beside-build_low, beside-build_cache, beside-copy_low_to_cache, Laid-build_cache, Laid-copy_low_to_cache, temp_bytes-small, has_bytes, peek_bytes-built, peek_bytes-copied, front-cache_built, front-copied, image_there, held-build_cache, held-copy_low_to_cache, peek_bytes-build_cache, peek_bytes-copy_low_to_cache, peek_place-build_cache, peek_place-copy_low_to_cache, has-build_cache, has-copy_low_to_cache, recency-build_cache, recency-copy_low_to_cache)
