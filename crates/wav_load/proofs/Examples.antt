@@ -33,17 +33,21 @@ unfolding chunks_from chunks_within is_chunk behind u32_in
 odd_chunk = refl
 
 -- two of five samples
-halved : image_of 11025 five ≡ Ok (2 ∷ 0 ∷ 0 ∷ 0 ∷ 255 ∷ 255 ∷ 255 ∷ 255 ∷ 0x11 ∷ 0x2b ∷ 0 ∷ 0 ∷ 1 ∷ 0 ∷ 0 ∷ 0 ∷ 0 ∷ 0 ∷ 0 ∷ 0 ∷ 0 ∷ 255 ∷ [])
-unfolding image_of sound_in parts_in places_in first_chunk chunks_from chunks_within is_chunk behind u16_in u32_in ratio_of powers
+halved : image_of 11025 five ≡ Ok
+    (2 ∷ 0 ∷ 0 ∷ 0 ∷ 255 ∷ 255 ∷ 255 ∷ 255 ∷ 0x11 ∷ 0x2b ∷ 0 ∷ 0 ∷ 1 ∷ 0 ∷ 0 ∷ 0 ∷ 0 ∷ 0 ∷ 0 ∷ 0 ∷ 0 ∷ 255 ∷ [])
+unfolding image_of sound_in parts_in places_in first_chunk chunks_from chunks_within is_chunk behind u16_in u32_in
+    ratio_of powers
 halved = refl
 
 -- a length of 2 ^ 31
 no_data : image_of 11025 (front ++ (coding 22050 ++ (codes "data" ++ u32_bytes 0x8000_0000))) ≡ Err NoData
-unfolding image_of sound_in parts_in places_in first_chunk chunks_from chunks_within is_chunk behind u16_in u32_in ratio_of powers
+unfolding image_of sound_in parts_in places_in first_chunk chunks_from chunks_within is_chunk behind u16_in u32_in
+    ratio_of powers
 no_data = refl
 
 other_rate : image_of 11025 (front ++ (coding 8000 ++ samples)) ≡ Err (Rate 8000)
-unfolding image_of sound_in parts_in places_in first_chunk chunks_from chunks_within is_chunk behind u16_in u32_in ratio_of powers
+unfolding image_of sound_in parts_in places_in first_chunk chunks_from chunks_within is_chunk behind u16_in u32_in
+    ratio_of powers
 other_rate = refl
 
 -- a loop of so many samples from sample 1 on
@@ -54,12 +58,15 @@ looped n =
     ++ (codes "cue " ++ (u32_bytes 28 ++ (replicate 24 0 ++ u32_bytes 1))
     ++ (codes "LIST" ++ (u32_bytes 24 ++ (replicate 16 0 ++ (u32_bytes n ++ codes "mark"))) ++ samples)))
 
-loop_of_three : image_of 22050 (looped 3) ≡ Ok (4 ∷ 0 ∷ 0 ∷ 0 ∷ 1 ∷ 0 ∷ 0 ∷ 0 ∷ 0x22 ∷ 0x56 ∷ 0 ∷ 0 ∷ 1 ∷ 0 ∷ 0 ∷ 0 ∷ 0 ∷ 0 ∷ 0 ∷ 0 ∷ 0 ∷ 1 ∷ 255 ∷ 128 ∷ [])
-unfolding image_of sound_in parts_in places_in first_chunk chunks_from chunks_within is_chunk behind u16_in u32_in ratio_of powers
+loop_of_three : image_of 22050 (looped 3) ≡ Ok
+    (4 ∷ 0 ∷ 0 ∷ 0 ∷ 1 ∷ 0 ∷ 0 ∷ 0 ∷ 0x22 ∷ 0x56 ∷ 0 ∷ 0 ∷ 1 ∷ 0 ∷ 0 ∷ 0 ∷ 0 ∷ 0 ∷ 0 ∷ 0 ∷ 0 ∷ 1 ∷ 255 ∷ 128 ∷ [])
+unfolding image_of sound_in parts_in places_in first_chunk chunks_from chunks_within is_chunk behind u16_in u32_in
+    ratio_of powers
 loop_of_three = refl
 
 loop_of_five : image_of 22050 (looped 5) ≡ Err BadLoop
-unfolding image_of sound_in parts_in places_in first_chunk chunks_from chunks_within is_chunk behind u16_in u32_in ratio_of powers
+unfolding image_of sound_in parts_in places_in first_chunk chunks_from chunks_within is_chunk behind u16_in u32_in
+    ratio_of powers
 loop_of_five = refl
 
 header_read : header_in (2 ∷ 0 ∷ 0 ∷ 0 ∷ 255 ∷ 255 ∷ 255 ∷ 255 ∷ 0x11 ∷ 0x2b ∷ 0 ∷ 0 ∷ 1 ∷ 0 ∷ 0 ∷ 0 ∷ 0 ∷ 0 ∷ 0 ∷ 0 ∷ [])

@@ -1,5 +1,6 @@
 -- What the tests say of a sound that passed them.
-use Rattle.std.proofs.Common.{◌≡◌, ℕ, ◌+◌, ◌*◌, ◌/◌, ◌≤◌, ◌<◌, ◌⊎◌, Bool, true, false, not, ◌||◌, Option, Some, None, Result, Ok, Err, refl, sym, subst, arith, inl, inr}
+use Rattle.std.proofs.Common.{◌≡◌, ℕ, ◌+◌, ◌*◌, ◌/◌, ◌≤◌, ◌<◌, ◌⊎◌, Bool, true, false, not, ◌||◌, Option, Some, None}
+use Rattle.std.proofs.Common.{Result, Ok, Err, refl, sym, subst, arith, inl, inr}
 use Rattle.std.specs.Prelude.{IfSome, IfOk, ◌==◌, nat_lt, is_none, unwrap_or}
 use Rattle.std.proofs.Math.Nat.{mul-le-mul_left}
 use Rattle.std.proofs.lemmas.Bool.Decides.{nat_tests}
@@ -11,7 +12,8 @@ use Rattle.wav_load.specs.declared.sound.Sound.{Sound}
 use Rattle.wav_load.specs.declared.ratio.Ratio.{Ratio}
 use Rattle.wav_load.specs.declared.fault.WavFault.{WavFault}
 use Rattle.wav_load.specs.Ratios.{ratio_of, IsSmall}
-use Rattle.wav_load.specs.Faults.{coding_in, stretch_in, width_in, held_in, played_in, tests, passing_sound, sound_in, IsInside}
+use Rattle.wav_load.specs.Faults.{coding_in, stretch_in, width_in, held_in, played_in, tests, passing_sound, sound_in}
+use Rattle.wav_load.specs.Faults.{IsInside}
 use Rattle.wav_load.proofs.RatioLaws.{ratio_small}
 
 width_is : (bits : ℕ) → not (bits == 8 || bits == 16) ≡ false → (bits / 8 ≡ 1) ⊎ (bits / 8 ≡ 2)
@@ -27,7 +29,8 @@ both_false true b e = absurd cc
 both_false false b e = (refl, e)
 
 -- a value that is there
-there : {A : Type 0} (P : A → Type 0) (found : Option A) (other : A) → IfSome found P → is_none found ≡ false → P (unwrap_or found other)
+there : {A : Type 0} (P : A → Type 0) (found : Option A) (other : A) → IfSome found P → is_none found ≡ false
+    → P (unwrap_or found other)
 there P None other all is = absurd cc
 there P (Some x) other all is = all
 
@@ -41,22 +44,27 @@ samples_fit width length played is fits =
     elim is [ inl one ↦ omega (arith, most) | inr two ↦ omega (arith, most) ]
 
 -- a sound that is told stands inside
-passing_inside : (parts : Parts) (speed n : ℕ) → IfSome parts.stretch (λ s. s.from + s.length ≤ n) → first_fault (tests parts speed) ≡ None → IsInside n (passing_sound parts speed)
+passing_inside : (parts : Parts) (speed n : ℕ) → IfSome parts.stretch (λ s. s.from + s.length ≤ n)
+    → first_fault (tests parts speed) ≡ None → IsInside n (passing_sound parts speed)
 passing_inside parts speed n ends none =
     let t = passes (tests parts speed) none in
     let width = width_is (coding_in parts).bits t.1.1.1.1.0 in
-    let stretch : (stretch_in parts).from + (stretch_in parts).length ≤ n = there (λ (s : Stretch). s.from + s.length ≤ n) parts.stretch _ ends t.1.1.1.1.1.0 in
+    let stretch : (stretch_in parts).from + (stretch_in parts).length ≤ n =
+    there (λ (s : Stretch). s.from + s.length ≤ n) parts.stretch _ ends t.1.1.1.1.1.0 in
     let loops = both_false _ _ t.1.1.1.1.1.1.0 in
-    let fits : width_in parts * played_in parts ≤ (stretch_in parts).length = samples_fit (width_in parts) (stretch_in parts).length (played_in parts) width (not_above _ _ loops.0) in
+    let fits : width_in parts * played_in parts ≤ (stretch_in parts).length =
+    samples_fit (width_in parts) (stretch_in parts).length (played_in parts) width (not_above _ _ loops.0) in
     record {
       width = width;
       few = not_above _ _ t.1.1.1.1.1.1.1.0;
       ends = omega (arith, stretch, fits);
-      ratio = there IsSmall (ratio_of (coding_in parts).rate speed) _ (ratio_small (coding_in parts).rate speed) t.1.1.1.1.1.1.1.1.0;
+      ratio = there IsSmall (ratio_of (coding_in parts).rate speed) _ (ratio_small (coding_in parts).rate speed)
+          t.1.1.1.1.1.1.1.1.0;
       loop_start = start_there parts.loop_start (played_in parts) (not_above _ _ loops.1);
     }
 
-pub is_inside : (parts : Parts) (speed n : ℕ) (result : Result Sound WavFault) → result ≡ sound_in parts speed → IfSome parts.stretch (λ s. s.from + s.length ≤ n) → IfOk result (IsInside n)
+pub is_inside : (parts : Parts) (speed n : ℕ) (result : Result Sound WavFault) → result ≡ sound_in parts speed
+    → IfSome parts.stretch (λ s. s.from + s.length ≤ n) → IfOk result (IsInside n)
 unfolding sound_in
 is_inside parts speed n (Err fault) is ends = tt
 is_inside parts speed n (Ok sound) is ends =

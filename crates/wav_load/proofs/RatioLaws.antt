@@ -1,5 +1,6 @@
 -- Ratios are small, and what they bring to a speed is there.
-use Rattle.std.proofs.Common.{◌≡◌, ℕ, ◌+◌, ◌*◌, ◌/◌, ◌^◌, ◌≤◌, ◌<◌, Bool, true, false, cond, List, [], ◌∷◌, Option, Some, None, refl, sym, subst, arith}
+use Rattle.std.proofs.Common.{◌≡◌, ℕ, ◌+◌, ◌*◌, ◌/◌, ◌^◌, ◌≤◌, ◌<◌, Bool, true, false, cond, List, [], ◌∷◌, Option}
+use Rattle.std.proofs.Common.{Some, None, refl, sym, subst, arith}
 use Rattle.std.specs.Prelude.{IfSome, ◌==◌}
 use Rattle.std.specs.List.{find, AllByRecursion}
 use Rattle.wav_load.specs.declared.ratio.Ratio.{Ratio}
@@ -17,7 +18,8 @@ powers_small = search (arith)
 powers_found : (p : ℕ → Bool) → IfSome (find p powers) is_power
 powers_found p = find_holds is_power p powers powers_small
 
-either_small : (one other : Option ℕ) → IfSome one is_power → IfSome other is_power → IfSome (times_or_part one other) IsSmall
+either_small : (one other : Option ℕ) → IfSome one is_power → IfSome other is_power
+    → IfSome (times_or_part one other) IsSmall
 either_small (Some n) other a b = record { least = a.0; most = a.1 }
 either_small None (Some n) a b = record { least = b.0; most = b.1 }
 either_small None None a b = tt
@@ -27,7 +29,9 @@ unfolding ratio_of
 ratio_small rate speed =
     let one = powers_found (λ power. speed * power == rate) in
     let other = powers_found (λ power. rate * power == speed) in
-    elim (rate == 0) as (λ b. IfSome (cond b None (times_or_part (find (λ power. speed * power == rate) powers) (find (λ power. rate * power == speed) powers))) IsSmall) [
+    elim (rate == 0) as (λ b. IfSome
+    (cond b None (times_or_part (find (λ power. speed * power == rate) powers)
+    (find (λ power. rate * power == speed) powers))) IsSmall) [
       | true ↦ tt
       | false ↦ either_small _ _ one other
     ]

@@ -1,5 +1,6 @@
 -- The tests of a WAV file in their order, and the sound that passes them.
-use Rattle.std.specs.Prelude.{ℕ, ◌≡◌, ◌+◌, ◌*◌, ◌/◌, ◌^◌, ◌<◌, ◌≤◌, ◌⊎◌, not, ◌||◌, nat_lt, ◌==◌, if◌then◌else◌, List, [], ◌∷◌, Bool, Option, Some, None, IfSome, is_none, unwrap_or, Result}
+use Rattle.std.specs.Prelude.{ℕ, ◌≡◌, ◌+◌, ◌*◌, ◌/◌, ◌^◌, ◌<◌, ◌≤◌, ◌⊎◌, not, ◌||◌, nat_lt, ◌==◌, if◌then◌else◌, List}
+use Rattle.std.specs.Prelude.{[], ◌∷◌, Bool, Option, Some, None, IfSome, is_none, unwrap_or, Result}
 use Rattle.base_fields.specs.Faults.{first_fault, unless}
 use Rattle.wav_load.specs.declared.parts.Coding.{Coding}
 use Rattle.wav_load.specs.declared.parts.Stretch.{Stretch}
@@ -8,7 +9,8 @@ use Rattle.wav_load.specs.declared.ratio.Ratio.{Ratio}
 use Rattle.wav_load.specs.declared.ratio.Ratio.TheVariants.{Times}
 use Rattle.wav_load.specs.declared.sound.Sound.{Sound}
 use Rattle.wav_load.specs.declared.fault.WavFault.{WavFault}
-use Rattle.wav_load.specs.declared.fault.WavFault.TheVariants.{NotRiff, NoFmt, NotPcm, NotMono, Width, NoData, BadLoop, TooLong, Rate}
+use Rattle.wav_load.specs.declared.fault.WavFault.TheVariants.{NotRiff, NoFmt, NotPcm, NotMono, Width, NoData}
+use Rattle.wav_load.specs.declared.fault.WavFault.TheVariants.{BadLoop, TooLong, Rate}
 use Rattle.wav_load.specs.Ratios.{ratio_of, IsSmall}
 
 -- what a test speaks of; where it is missing a test before it has failed

@@ -11,7 +11,8 @@ no_loop = 0xFFFF_FFFF
 abbrev pub header_bytes : SoundHeader → List ℕ
 header_bytes header =
     u32_bytes header.length
-    ++ (u32_bytes (unwrap_or header.loop_start no_loop) ++ (u32_bytes header.speed ++ (u32_bytes header.width ++ u32_bytes 0)))
+    ++ (u32_bytes (unwrap_or header.loop_start no_loop)
+    ++ (u32_bytes header.speed ++ (u32_bytes header.width ++ u32_bytes 0)))
 
 -- a start as it is read
 abbrev pub start_of : ℕ → Option ℕ

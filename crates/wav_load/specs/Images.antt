@@ -1,5 +1,6 @@
 -- The image of a sound.
-use Rattle.std.specs.Prelude.{ℕ, ◌≡◌, ◌+◌, ◌*◌, ◌%◌, ◌^◌, ◌<◌, ◌==◌, if◌then◌else◌, List, ◌++◌, map, option_map, Result, Ok, Err, IsOkAnd}
+use Rattle.std.specs.Prelude.{ℕ, ◌≡◌, ◌+◌, ◌*◌, ◌%◌, ◌^◌, ◌<◌, ◌==◌, if◌then◌else◌, List, ◌++◌, map, option_map}
+use Rattle.std.specs.Prelude.{Result, Ok, Err, IsOkAnd}
 use Rattle.std.specs.List.{flat_map, range_with_len}
 use Rattle.base_fields.specs.Fields.{field}
 use Rattle.wav_load.specs.declared.ratio.Ratio.{Ratio}

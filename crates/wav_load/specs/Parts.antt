@@ -1,5 +1,6 @@
 -- What is read of a WAV file, whatever it is.
-use Rattle.std.specs.Prelude.{ℕ, ◌+◌, ◌-◌, min, Bool, ◌&&◌, nat_le, if◌then◌else◌, List, length, codes, Option, Some, None, option_map, option_and_then}
+use Rattle.std.specs.Prelude.{ℕ, ◌+◌, ◌-◌, min, Bool, ◌&&◌, nat_le, if◌then◌else◌, List, length, codes, Option, Some}
+use Rattle.std.specs.Prelude.{None, option_map, option_and_then}
 use Rattle.base_fields.specs.Fields.{u16_in, u32_in}
 use Rattle.wav_load.specs.declared.parts.Coding.{Coding}
 use Rattle.wav_load.specs.declared.parts.Stretch.{Stretch}
@@ -29,7 +30,8 @@ loop_start_at bytes p = if nat_le (p + 36) (length bytes) then Some (u32_in byte
 
 -- of the `LIST` chunk at p: how many samples the loop has, where it is a mark that tells them
 abbrev pub mark_at : List ℕ → ℕ → Option ℕ
-mark_at bytes p = if nat_le (p + 32) (length bytes) && stands bytes (codes "mark") (p + 28) then Some (u32_in bytes (p + 24)) else None
+mark_at bytes p =
+    if nat_le (p + 32) (length bytes) && stands bytes (codes "mark") (p + 28) then Some (u32_in bytes (p + 24)) else None
 
 unfoldable pub parts_in : List ℕ → Parts
 parts_in bytes = record {

@@ -14,7 +14,9 @@ times_or_part None other = option_map Part other
 
 -- The rate is a power of two times the speed, or the speed is one times the rate. No speed has the rate 0.
 unfoldable pub ratio_of : ℕ → ℕ → Option Ratio
-ratio_of rate speed = if rate == 0 then None else times_or_part (find (λ power. speed * power == rate) powers) (find (λ power. rate * power == speed) powers)
+ratio_of rate speed =
+    if rate == 0 then None
+    else times_or_part (find (λ power. speed * power == rate) powers) (find (λ power. rate * power == speed) powers)
 
 -- so many samples of the rate, brought to the speed and rounded down
 abbrev pub scaled : Ratio → ℕ → ℕ

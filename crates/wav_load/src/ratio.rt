@@ -25,7 +25,7 @@ impl Ratio {
     ghost use Rattle.wav_load.specs.Ratios.{IsSmall, ratio_of, scaled};
 
     // The ratio of a rate to a speed, if it is one that is taken.
-    #[tactic(auto, using(crate::proofs::RatioLaws::ratio_small), unfolding(crate::specs::Ratios::ratio_of, crate::specs::Ratios::powers))]
+    #[tactic(auto, unfolding(crate::specs::Ratios::ratio_of, crate::specs::Ratios::powers))]
     pub(crate) fn of(rate: u32, speed: u32) -> Option<Ratio>
         ensures value { result ≡ ratio_of rate speed }
         ensures small { IfSome result IsSmall }

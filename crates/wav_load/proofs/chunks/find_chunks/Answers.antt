@@ -8,7 +8,8 @@ loop-places-preserved c =
     let is : is_chunk c.args.source.now c.loop-places.at ≡ true = sym c.begins.ensures.value ∙ c.loop-places-test.true in
     record {
       near = c.next-at.ensures.near;
-      same = rw (c.note-places.ensures, c.next-at.ensures.value) (goes_on _ c.loop-places.places _ _ is c.loop-places.invariant.same);
+      same = rw (c.note-places.ensures, c.next-at.ensures.value)
+          (goes_on _ c.loop-places.places _ _ is c.loop-places.invariant.same);
     }
 
 pub returns-clause-value : goal.returns-clause-value
@@ -19,4 +20,5 @@ returns-clause-value c =
 pub returns-clause-inside : goal.returns-clause-inside
 returns-clause-inside c =
     let none : is_chunk c.args.source.now c.loop-places.at ≡ false = sym c.begins.ensures.value ∙ c.loop-places-test.false in
-    subst (AreInside (length c.args.source.now)) (sym (ends _ _ _ _ none c.loop-places.invariant.same)) (are_inside c.args.source.now)
+    subst (AreInside (length c.args.source.now)) (sym (ends _ _ _ _ none c.loop-places.invariant.same))
+    (are_inside c.args.source.now)
