@@ -1,13 +1,12 @@
 -- The header of an image tells its sound.
 use Rattle.std.proofs.Common.{◌≡◌, ℕ, ◌+◌, ◌*◌, ◌/◌, ◌^◌, ◌<◌, ◌≤◌, Bool, false, cond, List, ◌++◌, length, Option}
-use Rattle.std.proofs.Common.{Some, None, Result, Ok, Err, refl, ap, inl, inr, ◌∙◌, mul-le-mul_right, mul-le-mul_left}
+use Rattle.std.proofs.Common.{Some, None, Result, Ok, Err, refl, ap, inl, inr, ◌∙◌, mul-le-mul_left}
 use Rattle.std.proofs.Common.{arith}
 use Rattle.std.specs.Prelude.{◌==◌, IfSome, IfOk, IsOkAnd, unwrap_or, option_map}
 use Rattle.std.proofs.lemmas.Bool.Decides.{nat_tests}
 use Rattle.base_fields.specs.Fields.{u32_in}
 use Rattle.base_fields.proofs.FieldLaws.{little_endian-u32_bytes}
 use Rattle.wav_load.specs.declared.header.SoundHeader.{SoundHeader}
-use Rattle.wav_load.specs.declared.parts.Stretch.{Stretch}
 use Rattle.wav_load.specs.declared.ratio.Ratio.{Ratio}
 use Rattle.wav_load.specs.declared.ratio.Ratio.TheVariants.{Times, Part}
 use Rattle.wav_load.specs.declared.sound.Sound.{Sound}

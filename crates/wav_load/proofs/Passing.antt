@@ -1,5 +1,5 @@
 -- What the tests say of a sound that passed them.
-use Rattle.std.proofs.Common.{◌≡◌, ℕ, ◌+◌, ◌*◌, ◌/◌, ◌≤◌, ◌<◌, ◌⊎◌, Bool, true, false, not, ◌||◌, Option, Some, None}
+use Rattle.std.proofs.Common.{◌≡◌, ℕ, ◌+◌, ◌*◌, ◌/◌, ◌≤◌, ◌⊎◌, Bool, true, false, not, ◌||◌, Option, Some, None}
 use Rattle.std.proofs.Common.{Result, Ok, Err, refl, sym, subst, arith, inl, inr}
 use Rattle.std.specs.Prelude.{IfSome, IfOk, ◌==◌, nat_lt, is_none, unwrap_or}
 use Rattle.std.proofs.Math.Nat.{mul-le-mul_left}
@@ -9,10 +9,9 @@ use Rattle.base_fields.proofs.FaultLaws.{passes, unless_ok}
 use Rattle.wav_load.specs.declared.parts.Parts.{Parts}
 use Rattle.wav_load.specs.declared.parts.Stretch.{Stretch}
 use Rattle.wav_load.specs.declared.sound.Sound.{Sound}
-use Rattle.wav_load.specs.declared.ratio.Ratio.{Ratio}
 use Rattle.wav_load.specs.declared.fault.WavFault.{WavFault}
 use Rattle.wav_load.specs.Ratios.{ratio_of, IsSmall}
-use Rattle.wav_load.specs.Faults.{coding_in, stretch_in, width_in, held_in, played_in, tests, passing_sound, sound_in}
+use Rattle.wav_load.specs.Faults.{coding_in, stretch_in, width_in, played_in, tests, passing_sound, sound_in}
 use Rattle.wav_load.specs.Faults.{IsInside}
 use Rattle.wav_load.proofs.RatioLaws.{ratio_small}
 

@@ -1,11 +1,9 @@
 -- Ratios are small, and what they bring to a speed is there.
-use Rattle.std.proofs.Common.{◌≡◌, ℕ, ◌+◌, ◌*◌, ◌/◌, ◌^◌, ◌≤◌, ◌<◌, Bool, true, false, cond, List, [], ◌∷◌, Option}
-use Rattle.std.proofs.Common.{Some, None, refl, sym, subst, arith}
+use Rattle.std.proofs.Common.{ℕ, ◌*◌, ◌≤◌, ◌<◌, Bool, true, false, cond, Option}
+use Rattle.std.proofs.Common.{Some, None, arith}
 use Rattle.std.specs.Prelude.{IfSome, ◌==◌}
 use Rattle.std.specs.List.{find, AllByRecursion}
-use Rattle.wav_load.specs.declared.ratio.Ratio.{Ratio}
-use Rattle.wav_load.specs.declared.ratio.Ratio.TheVariants.{Times, Part}
-use Rattle.wav_load.specs.Ratios.{powers, times_or_part, ratio_of, scaled, input_of, IsSmall}
+use Rattle.wav_load.specs.Ratios.{powers, times_or_part, ratio_of, IsSmall}
 use Rattle.wav_load.proofs.Walking.{find_holds}
 
 abbrev is_power : ℕ → Type 0

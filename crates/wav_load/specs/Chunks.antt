@@ -1,7 +1,7 @@
 -- The chunks of a RIFF file.
 use Rattle.std.specs.Prelude.{ℕ, zero, suc, ◌+◌, ◌%◌, ◌^◌, ◌≤◌, Bool, ◌&&◌, nat_lt, nat_le, ◌==◌, if◌then◌else◌, List}
 use Rattle.std.specs.Prelude.{[], ◌∷◌, length, drop, codes}
-use Rattle.std.specs.Prelude.{Option, Some, None, IfSome, is_none, option_and_then}
+use Rattle.std.specs.Prelude.{Option, Some, IfSome, is_none, option_and_then}
 use Rattle.std.specs.List.{find, starts_with}
 use Rattle.base_fields.specs.Fields.{u32_in}
 use Rattle.wav_load.specs.declared.chunks.Places.{Places}

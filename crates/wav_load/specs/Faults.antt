@@ -1,11 +1,10 @@
 -- The tests of a WAV file in their order, and the sound that passes them.
-use Rattle.std.specs.Prelude.{ℕ, ◌≡◌, ◌+◌, ◌*◌, ◌/◌, ◌^◌, ◌<◌, ◌≤◌, ◌⊎◌, not, ◌||◌, nat_lt, ◌==◌, if◌then◌else◌, List}
+use Rattle.std.specs.Prelude.{ℕ, ◌≡◌, ◌+◌, ◌*◌, ◌/◌, ◌^◌, ◌≤◌, ◌⊎◌, not, ◌||◌, nat_lt, ◌==◌, if◌then◌else◌, List}
 use Rattle.std.specs.Prelude.{[], ◌∷◌, Bool, Option, Some, None, IfSome, is_none, unwrap_or, Result}
 use Rattle.base_fields.specs.Faults.{first_fault, unless}
 use Rattle.wav_load.specs.declared.parts.Coding.{Coding}
 use Rattle.wav_load.specs.declared.parts.Stretch.{Stretch}
 use Rattle.wav_load.specs.declared.parts.Parts.{Parts}
-use Rattle.wav_load.specs.declared.ratio.Ratio.{Ratio}
 use Rattle.wav_load.specs.declared.ratio.Ratio.TheVariants.{Times}
 use Rattle.wav_load.specs.declared.sound.Sound.{Sound}
 use Rattle.wav_load.specs.declared.fault.WavFault.{WavFault}
