@@ -1,7 +1,6 @@
 -- What faults in an order tell.
-use Rattle.std.proofs.Common.{◌≡◌, Bool, true, false, List, [], ◌∷◌, ◌++◌, Option, Some, None, Ok, refl}
+use Rattle.std.proofs.Common.{◌≡◌, Bool, true, false, List, [], ◌∷◌, Option, Some, None, Ok, refl}
 use Rattle.std.specs.List.{AllByRecursion}
-use Rattle.std.specs.Option.{option_or}
 use Rattle.base_fields.specs.Faults.{first_fault, unless}
 
 -- where there is no fault, each test is false
@@ -9,12 +8,6 @@ pub passes : {F : Type 0} (tests : List (Bool × F)) → first_fault tests ≡ N
 passes [] none = tt
 passes ((true, fault) ∷ tests) none = absurd cc
 passes ((false, fault) ∷ tests) none = (refl, passes tests none)
-
--- the first fault of two lists, one behind the other
-pub first_fault-append : {F : Type 0} (tests more : List (Bool × F)) → first_fault (tests ++ more) ≡ option_or (first_fault tests) (first_fault more)
-first_fault-append [] more = refl
-first_fault-append ((true, fault) ∷ tests) more = refl
-first_fault-append ((false, fault) ∷ tests) more = first_fault-append tests more
 
 -- a value comes where there is no fault, and is that value
 pub unless_ok : {F A : Type 0} (fault : Option F) (value x : A) → unless fault value ≡ Ok x → (fault ≡ None) × (value ≡ x)

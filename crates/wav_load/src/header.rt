@@ -18,6 +18,7 @@ pub struct SoundHeader {
     pub width: u32,
 }
 
+// In the place of the loop's start, where there is no loop.
 const NO_LOOP: u32 = u32::MAX;
 
 // The header as its 20 bytes.

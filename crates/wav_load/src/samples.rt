@@ -16,7 +16,7 @@ fn centred(sample: u8) -> u8
     sample.wrapping_add(128)
 }
 
-// Each sample once.
+// Each sample of 8 bits once.
 #[tactic(auto, using(crate::proofs::SampleLaws::sample_laws))]
 fn keep_bytes(block: &mut [u8], input: &[u8])
     requires { length block.old ≡ length input.now }
@@ -27,7 +27,7 @@ fn keep_bytes(block: &mut [u8], input: &[u8])
     }
 }
 
-// One sample of so many.
+// The first of each so many samples of 8 bits.
 #[tactic(auto, using(crate::proofs::SampleLaws::sample_laws))]
 fn skip_bytes(block: &mut [u8], input: &[u8], power: usize)
     requires least { 0 < power }
@@ -40,7 +40,7 @@ fn skip_bytes(block: &mut [u8], input: &[u8], power: usize)
     }
 }
 
-// Each sample so many times.
+// Each sample of 8 bits so many times.
 #[tactic(auto, using(crate::proofs::SampleLaws::sample_laws))]
 fn repeat_bytes(block: &mut [u8], input: &[u8], power: usize)
     requires small { (0 < power) × (power ≤ 256) }
@@ -54,7 +54,7 @@ fn repeat_bytes(block: &mut [u8], input: &[u8], power: usize)
     }
 }
 
-// The samples of 8 bits.
+// The samples of 8 bits, brought to the speed.
 fn put_bytes(block: &mut [u8], input: &[u8], ratio: Ratio)
     requires small { IsSmall ratio }
     requires few { length input.now ≤ 2 ^ 26 }
@@ -68,7 +68,7 @@ fn put_bytes(block: &mut [u8], input: &[u8], ratio: Ratio)
     }
 }
 
-// Each sample once.
+// Each sample of 16 bits once.
 #[tactic(auto, using(crate::proofs::SampleLaws::words_kept))]
 fn keep_words(block: &mut [u8], input: &[u8])
     requires even { length input.now % 2 ≡ 0 }
@@ -78,7 +78,7 @@ fn keep_words(block: &mut [u8], input: &[u8])
     block.copy_from_slice(input);
 }
 
-// One sample of so many.
+// The first of each so many samples of 16 bits.
 #[tactic(auto, using(crate::proofs::SampleLaws::sample_laws))]
 fn skip_words(block: &mut [u8], input: &[u8], power: usize)
     requires least { 0 < power }
@@ -105,7 +105,7 @@ fn fill_words(block: &mut [u8], low: u8, high: u8)
     }
 }
 
-// Each sample so many times.
+// Each sample of 16 bits so many times.
 #[tactic(auto, using(crate::proofs::SampleLaws::sample_laws))]
 fn repeat_words(block: &mut [u8], input: &[u8], power: usize)
     requires small { (0 < power) × (power ≤ 256) }
@@ -123,7 +123,7 @@ fn repeat_words(block: &mut [u8], input: &[u8], power: usize)
     }
 }
 
-// The samples of 16 bits.
+// The samples of 16 bits, brought to the speed.
 fn put_words(block: &mut [u8], input: &[u8], ratio: Ratio)
     requires small { IsSmall ratio }
     requires few { length input.now ≤ 2 ^ 26 }

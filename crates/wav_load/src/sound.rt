@@ -22,6 +22,7 @@ pub(crate) struct Sound {
     pub(crate) loop_start: Option<u32>,
 }
 
+// The most samples that are played, at the file's rate.
 const LONGEST: u64 = 1 << 22;
 
 // The samples up to the end of the loop, where it has both a start and a mark, and 0 elsewhere.
