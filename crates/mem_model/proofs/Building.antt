@@ -33,9 +33,13 @@ pub there_is : {A F : Type 0} (r : Result A F) (P : A → Type 0) → IsOkAnd r 
 there_is (Ok x) P h = (x, refl)
 there_is (Err fault) P h = absurd h
 
--- The temporary bytes are those of the newest high block.
-pub temp_newest : (m : Memory) (n : ℕ) → HasBytes (temp_bytes m) n → temp_bytes m ≡ last_bytes m.high
-temp_newest m n h = (let mark = mark_of m (some_has (temp_bytes m) n h) in temp_bytes-some m mark.0 mark.1)
+-- The first temporary bytes are those of the newest high block.
+pub newest_read : (m now : Memory) (n : ℕ) → m ≡ now → HasBytes (temp_bytes now) n → HasBytes (last_bytes m.high) n × (front_of (temp_bytes now) n ≡ front_of (last_bytes m.high) n)
+newest_read m now n is h =
+    let here : HasBytes (temp_bytes m) n = rw is h in
+    let mark = mark_of m (some_has (temp_bytes m) n here) in
+    let newest = temp_bytes-some m mark.0 mark.1 in
+    (rw newest at here, ap (λ k. front_of (temp_bytes k) n) (sym is) ∙ ap (λ o. front_of o n) newest)
 
 pub front_small : (m : Memory) (n : ℕ) → Laid m → length (front_of (temp_bytes m) n) ≤ 2 ^ 26
 front_small m n laid = small (temp_bytes m) refl where

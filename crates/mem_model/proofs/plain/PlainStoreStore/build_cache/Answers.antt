@@ -3,20 +3,17 @@ use Rattle.std.specs.Prelude.{IsSome}
 use Rattle.mem_model.specs.Memory.{Memory}
 use Rattle.mem_model.specs.Cache.{peek_bytes}
 use Rattle.mem_model.specs.Hunk.{over, temp_bytes}
-use Rattle.mem_model.specs.Images.{HasBytes, front_of, with_cache_bytes, with_user_bytes}
+use Rattle.mem_model.specs.Images.{front_of, with_cache_bytes, with_user_bytes}
 use Rattle.mem_model.specs.Laid.{Laid}
 use Rattle.mem_model.specs.PlainState.{state_of}
-use Rattle.mem_model.proofs.Building.{build_cache_gives, cache_written, front_small, some_image, some_peeked, temp_newest, there_is}
+use Rattle.mem_model.proofs.Building.{build_cache_gives, cache_written, front_small, newest_read, some_image, some_peeked, there_is}
 use Rattle.mem_model.proofs.CacheBytes.{Laid-with_cache_bytes}
 use Rattle.mem_model.proofs.plain.PlainStoreStore.build_cache.Given.{Over}
 use Rattle.mem_model.proofs.plain.PlainStoreStore.build_cache.Goals as goal
 use Rattle.mem_model.proofs.plain.PlainStoreStore.build_cache.Goals.{After-bytes_mut}
 
 pub newest_front-source-requires : goal.newest_front-source-requires
-newest_front-source-requires g c =
-    let has : HasBytes (temp_bytes c.args.self.now) c.args.len = c.requires.source in
-    let here : HasBytes (temp_bytes (state_of c.self.inside)) c.args.len = rw (← c.self.view_is) at has in
-    rw c.deref.ensures.value (rw (temp_newest (state_of c.self.inside) c.args.len here) at here)
+newest_front-source-requires g c = rw c.deref.ensures.value (newest_read (state_of c.self.inside) _ c.args.len c.self.view_is c.requires.source).0
 
 pub bytes_mut-requires : goal.bytes_mut-requires
 bytes_mut-requires g c =
@@ -25,10 +22,7 @@ bytes_mut-requires g c =
 
 -- the bytes that are read
 source : (g : Over) (c : After-bytes_mut g) → front_of (temp_bytes c.args.self.now) c.args.len ≡ c.newest_front-source.result.now
-source g c =
-    let has : HasBytes (temp_bytes c.args.self.now) c.args.len = c.requires.source in
-    let newest = temp_newest (state_of c.self.inside) c.args.len (rw (← c.self.view_is) at has) in
-    rw (← c.self.view_is, newest, c.newest_front-source.ensures, c.deref.ensures.value) refl
+source g c = (newest_read (state_of c.self.inside) _ c.args.len c.self.view_is c.requires.source).1 ∙ rw (c.newest_front-source.ensures, c.deref.ensures.value) refl
 
 -- the bytes that are written
 target : (g : Over) (c : After-bytes_mut g) → peek_bytes c.args.self.now.cache c.args.user ≡ Some c.bytes_mut.result.now

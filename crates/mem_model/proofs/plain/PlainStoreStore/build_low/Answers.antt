@@ -3,11 +3,11 @@ use Rattle.std.specs.Prelude.{slice_get, slice_set}
 use Rattle.std.proofs.lemmas.Option.{slice_get_read}
 use Rattle.mem_model.specs.Memory.{Memory}
 use Rattle.mem_model.specs.Hunk.{low_bytes, over, temp_bytes, with_bytes, with_bytes_above, with_low_bytes}
-use Rattle.mem_model.specs.Images.{HasBytes, front_of}
+use Rattle.mem_model.specs.Images.{front_of}
 use Rattle.mem_model.specs.Laid.{Laid}
 use Rattle.mem_model.specs.Plain.{IsAt}
 use Rattle.mem_model.specs.PlainState.{state_of}
-use Rattle.mem_model.proofs.Building.{build_low_gives, front_small, low_found, low_written, some_image, temp_newest, there_is}
+use Rattle.mem_model.proofs.Building.{build_low_gives, front_small, low_found, low_written, newest_read, some_image, there_is}
 use Rattle.mem_model.proofs.Ends.{ends-with_bytes_above}
 use Rattle.mem_model.proofs.Laying.{Laid-with_low_bytes, size_of-with_bytes_above}
 use Rattle.mem_model.proofs.plain.PlainStoreStore.build_low.Given.{Over}
@@ -19,17 +19,11 @@ unfolding low_bytes
 low_position-at-requires g c = some_image _ _ c.requires.image
 
 pub newest_front-source-requires : goal.newest_front-source-requires
-newest_front-source-requires g c =
-    let has : HasBytes (temp_bytes c.args.self.now) c.args.len = c.requires.source in
-    let here : HasBytes (temp_bytes (state_of c.self.inside)) c.args.len = rw (← c.self.view_is) at has in
-    rw c.deref.ensures.value (rw (temp_newest (state_of c.self.inside) c.args.len here) at here)
+newest_front-source-requires g c = rw c.deref.ensures.value (newest_read (state_of c.self.inside) _ c.args.len c.self.view_is c.requires.source).0
 
 -- the bytes that are read
 source : (g : Over) (c : After-bytes_mut g) → front_of (temp_bytes c.args.self.now) c.args.len ≡ c.newest_front-source.result.now
-source g c =
-    let has : HasBytes (temp_bytes c.args.self.now) c.args.len = c.requires.source in
-    let newest = temp_newest (state_of c.self.inside) c.args.len (rw (← c.self.view_is) at has) in
-    rw (← c.self.view_is, newest, c.newest_front-source.ensures, c.deref.ensures.value) refl
+source g c = (newest_read (state_of c.self.inside) _ c.args.len c.self.view_is c.requires.source).1 ∙ rw (c.newest_front-source.ensures, c.deref.ensures.value) refl
 
 -- the block that is written
 at_cell : (g : Over) (c : After-bytes_mut g) → IsAt c.self.inside.low.items c.args.place.0 c.low_position-at.result
