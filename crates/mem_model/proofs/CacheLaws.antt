@@ -1,5 +1,5 @@
 -- What each operation leaves of the rest of a memory, and that it keeps a memory laid out, whatever the cache has.
-use Rattle.std.proofs.Common.{◌≡◌, ◌≢◌, ℕ, suc, ◌+◌, ◌-◌, ◌<◌, ◌≤◌, Bool, true, false, List, [], ◌∷◌, ◌++◌, Option, Some, None, Result, Ok, Err, length, nat_eq, not, ltb, eqb, refl, sym, ap, subst, ◌∙◌, inl, inr, arith, take, if◌then◌else◌, is_ok, length-take, rules}
+use Rattle.std.proofs.Common.{◌≡◌, ◌≢◌, ℕ, suc, ◌+◌, ◌-◌, ◌<◌, ◌≤◌, Bool, true, false, List, [], ◌∷◌, ◌++◌, Option, Some, None, Result, Ok, Err, length, nat_eq, not, ltb, eqb, refl, sym, ap, subst, ◌∙◌, inl, inr, arith, take, replicate, if◌then◌else◌, is_ok, length-take, rules}
 use Rattle.std.specs.Prelude.{is_some, codes}
 use Rattle.std.specs.Option.{option_map}
 use Rattle.std.proofs.lemmas.List.{length-replicate}
@@ -15,7 +15,7 @@ use Rattle.mem_model.specs.Zone.{zone_bytes, used_bytes_from}
 use Rattle.mem_model.specs.Cache.{pushed_up, pushed_down, peek_bytes, without, touched, block_of, with_new, new_block, without_user}
 use Rattle.mem_model.specs.Answer.{Answered, Gives, with_event}
 use Rattle.mem_model.specs.Operations.{low_alloc, low_free, low_cut, high_taken, high_alloc, high_free, high_cut, high_mark, temp_alloc, z_alloc, z_free, cache_alloc, check, cache_free, flush, build_low, build_cache, copy_low_to_cache, shortage}
-use Rattle.mem_model.specs.Images.{front_of}
+use Rattle.mem_model.specs.Images.{HasBytes, front_of}
 use Rattle.mem_model.specs.Laid.{Laid, IsText, IsHunkBlock, IsCache, IsCacheBlock, count_in, users_of}
 use Rattle.mem_model.specs.Keeps.{held, unplaced, KeepsUsers, beside_low, beside_high, beside_zone, beside_cache}
 use Rattle.mem_model.proofs.CacheBlocks.{find-none, find-some, count-gone, count-stays}
@@ -575,9 +575,23 @@ pub block_shown : (o : Option CacheBlock) (bytes : List ℕ) → option_map (λ 
 block_shown None bytes e = absurd (cc)
 block_shown (Some b) bytes e = (b, refl, (let same : b.bytes ≡ bytes = cc in same))
 
+-- A new block of a user has as many bytes as were asked.
+pub has-cache_new : (m : Memory) (user size n : ℕ) (name : List ℕ) → Laid m → user < m.users → IsText name → (cache_alloc m user size name).answer ≡ Ok tt → n ≤ size → HasBytes (peek_bytes (cache_alloc m user size name).after.cache user) n
+has-cache_new m user size n name laid known text h fits =
+    has_bytes _ n (replicate (cache_need size - 40) 0) (peek_bytes-held _ user _ (held-new m user size name laid known text h)) (omega (arith, fits, length-replicate {A = ℕ} (cache_need size - 40) 0))
+
+-- A freeing of low blocks leaves the cache as it is.
+cache-low_cut : (m : Memory) (mark : ℕ) (o : Option (List HunkBlock)) → (low_cut m mark o).after.cache ≡ m.cache
+cache-low_cut m mark None = refl
+cache-low_cut m mark (Some kept) = refl
+
+pub cache-low_free : (m : Memory) (mark : ℕ) → (low_free m mark).after.cache ≡ m.cache
+unfolding low_free
+cache-low_free m mark = cache-with_event _ _ ∙ cache-low_cut m mark (cut_above m.low mark)
+
 pub keeps-without_temp : (m : Memory) → Laid m → KeepsUsers None m (without_temp m)
 keeps-without_temp m laid = (sound-without_temp m laid).keeps
 
 -- For callers, as `#[tactic(auto, using(mem_model::proofs::CacheLaws::cache_laws))]` or one by one: the number of users,
 -- what users hold through calls that may move their blocks, and the bytes of each part through calls of another.
-pub ruleset cache_laws = (users-low_alloc, users-low_free, users-high_alloc, users-high_mark, users-high_free, users-temp_alloc, users-cache_alloc, users-check, users-cache_free, users-flush, held-new, peek_bytes-held, keeps_users_all, keeps_users_more, keeps-without_temp, keeps-low_alloc, keeps-low_free, keeps-high_alloc, keeps-high_mark, keeps-high_free, keeps-temp_alloc, keeps-z_alloc, keeps-z_free, keeps-cache_alloc, keeps-check, keeps-cache_free, keeps-flush, beside-low_alloc, beside-low_free, beside-high_alloc, beside-high_mark, beside-high_free, beside-temp_alloc, beside-z_alloc, beside-z_free, beside-cache_alloc, beside-check, beside-cache_free, beside-flush, low_bytes-beside_high, low_bytes-beside_zone, low_bytes-beside_cache, temp_bytes-beside_low, temp_bytes-beside_zone, temp_bytes-beside_cache, zone_bytes-beside_low, zone_bytes-beside_high, zone_bytes-beside_cache, users-build_low, users-build_cache, users-copy_low_to_cache, keeps-build_low, keeps-build_cache, keeps-copy_low_to_cache, cache-build_low, beside-build_low, beside-build_cache, beside-copy_low_to_cache, Laid-build_cache, Laid-copy_low_to_cache, temp_bytes-small, has_bytes, peek_bytes-built, peek_bytes-copied, front-cache_built, front-copied, image_there, held-build_cache, held-copy_low_to_cache, peek_bytes-build_cache, peek_bytes-copy_low_to_cache, peek_place-build_cache, peek_place-copy_low_to_cache, has-build_cache, has-copy_low_to_cache, recency-build_cache, recency-copy_low_to_cache)
+pub ruleset cache_laws = (users-low_alloc, users-low_free, users-high_alloc, users-high_mark, users-high_free, users-temp_alloc, users-cache_alloc, users-check, users-cache_free, users-flush, held-new, peek_bytes-held, keeps_users_all, keeps_users_more, keeps-without_temp, keeps-low_alloc, keeps-low_free, keeps-high_alloc, keeps-high_mark, keeps-high_free, keeps-temp_alloc, keeps-z_alloc, keeps-z_free, keeps-cache_alloc, keeps-check, keeps-cache_free, keeps-flush, beside-low_alloc, beside-low_free, beside-high_alloc, beside-high_mark, beside-high_free, beside-temp_alloc, beside-z_alloc, beside-z_free, beside-cache_alloc, beside-check, beside-cache_free, beside-flush, low_bytes-beside_high, low_bytes-beside_zone, low_bytes-beside_cache, temp_bytes-beside_low, temp_bytes-beside_zone, temp_bytes-beside_cache, zone_bytes-beside_low, zone_bytes-beside_high, zone_bytes-beside_cache, users-build_low, users-build_cache, users-copy_low_to_cache, keeps-build_low, keeps-build_cache, keeps-copy_low_to_cache, cache-build_low, cache-low_free, has-cache_new, beside-build_low, beside-build_cache, beside-copy_low_to_cache, Laid-build_cache, Laid-copy_low_to_cache, temp_bytes-small, has_bytes, peek_bytes-built, peek_bytes-copied, front-cache_built, front-copied, image_there, held-build_cache, held-copy_low_to_cache, peek_bytes-build_cache, peek_bytes-copy_low_to_cache, peek_place-build_cache, peek_place-copy_low_to_cache, has-build_cache, has-copy_low_to_cache, recency-build_cache, recency-copy_low_to_cache)
