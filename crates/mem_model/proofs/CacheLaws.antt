@@ -10,7 +10,7 @@ use Rattle.mem_model.specs.Event.{Event, Shortage, FreeRefusal, CacheRefusal.Occ
 use Rattle.mem_model.specs.Blocks.{HunkBlock, CacheBlock}
 use Rattle.mem_model.specs.Memory.{Memory, Cache, size_of, low_used, high_used, high_start, room}
 use Rattle.mem_model.specs.Places.{hunk_need, cache_need, round_up}
-use Rattle.mem_model.specs.Hunk.{hunk_block, with_low, with_high, without_temp, temp_freed, cut_from, cut_above, low_bytes, with_low_bytes, bytes_above, temp_bytes, temp_bytes_of}
+use Rattle.mem_model.specs.Hunk.{hunk_block, with_low, with_high, without_temp, temp_freed, cut_from, cut_above, low_bytes, with_low_bytes, bytes_above, temp_bytes, temp_bytes_of, with_temp_bytes, with_temp_bytes_of}
 use Rattle.mem_model.specs.Zone.{zone_bytes, used_bytes_from}
 use Rattle.mem_model.specs.Cache.{pushed_up, pushed_down, peek_bytes, without, touched, block_of, with_new, new_block, without_user}
 use Rattle.mem_model.specs.Answer.{Answered, Gives, with_event}
@@ -548,6 +548,18 @@ users-cache_free m user = ap (λ (x : Memory). x.users) (beside-cache_free m use
 pub users-flush : (m : Memory) → (flush m).after.users ≡ m.users
 users-flush m = ap (λ (x : Memory). x.users) (beside-flush m)
 
+pub users-with_low_bytes : (m : Memory) (place : ℕ) (bytes : List ℕ) → (with_low_bytes m place bytes).users ≡ m.users
+unfolding with_low_bytes
+users-with_low_bytes m place bytes = refl
+
+users-with_temp_of : (m : Memory) (bytes : List ℕ) (temp : Option ℕ) → (with_temp_bytes_of m bytes temp).users ≡ m.users
+users-with_temp_of m bytes None = refl
+users-with_temp_of m bytes (Some mark) = refl
+
+pub users-with_temp_bytes : (m : Memory) (bytes : List ℕ) → (with_temp_bytes m bytes).users ≡ m.users
+unfolding with_temp_bytes
+users-with_temp_bytes m bytes = users-with_temp_of m bytes m.temp
+
 pub users-build_low : {F : Type 0} (m : Memory) (place len : ℕ) (image_of : List ℕ → Result (List ℕ) F) → (build_low m place len image_of).after.users ≡ m.users
 users-build_low m place len image_of = ap (λ (x : Memory). x.users) (beside-build_low m place len image_of)
 
@@ -594,4 +606,4 @@ keeps-without_temp m laid = (sound-without_temp m laid).keeps
 
 -- For callers, as `#[tactic(auto, using(mem_model::proofs::CacheLaws::cache_laws))]` or one by one: the number of users,
 -- what users hold through calls that may move their blocks, and the bytes of each part through calls of another.
-pub ruleset cache_laws = (users-low_alloc, users-low_free, users-high_alloc, users-high_mark, users-high_free, users-temp_alloc, users-cache_alloc, users-check, users-cache_free, users-flush, held-new, peek_bytes-held, keeps_users_all, keeps_users_more, keeps-without_temp, keeps-low_alloc, keeps-low_free, keeps-high_alloc, keeps-high_mark, keeps-high_free, keeps-temp_alloc, keeps-z_alloc, keeps-z_free, keeps-cache_alloc, keeps-check, keeps-cache_free, keeps-flush, beside-low_alloc, beside-low_free, beside-high_alloc, beside-high_mark, beside-high_free, beside-temp_alloc, beside-z_alloc, beside-z_free, beside-cache_alloc, beside-check, beside-cache_free, beside-flush, low_bytes-beside_high, low_bytes-beside_zone, low_bytes-beside_cache, temp_bytes-beside_low, temp_bytes-beside_zone, temp_bytes-beside_cache, zone_bytes-beside_low, zone_bytes-beside_high, zone_bytes-beside_cache, users-build_low, users-build_cache, users-copy_low_to_cache, keeps-build_low, keeps-build_cache, keeps-copy_low_to_cache, cache-build_low, cache-low_free, has-cache_new, beside-build_low, beside-build_cache, beside-copy_low_to_cache, Laid-build_cache, Laid-copy_low_to_cache, temp_bytes-small, has_bytes, peek_bytes-built, peek_bytes-copied, front-cache_built, front-copied, image_there, held-build_cache, held-copy_low_to_cache, peek_bytes-build_cache, peek_bytes-copy_low_to_cache, peek_place-build_cache, peek_place-copy_low_to_cache, has-build_cache, has-copy_low_to_cache, recency-build_cache, recency-copy_low_to_cache)
+pub ruleset cache_laws = (users-low_alloc, users-low_free, users-high_alloc, users-high_mark, users-high_free, users-temp_alloc, users-cache_alloc, users-check, users-cache_free, users-flush, held-new, peek_bytes-held, keeps_users_all, keeps_users_more, keeps-without_temp, keeps-low_alloc, keeps-low_free, keeps-high_alloc, keeps-high_mark, keeps-high_free, keeps-temp_alloc, keeps-z_alloc, keeps-z_free, keeps-cache_alloc, keeps-check, keeps-cache_free, keeps-flush, beside-low_alloc, beside-low_free, beside-high_alloc, beside-high_mark, beside-high_free, beside-temp_alloc, beside-z_alloc, beside-z_free, beside-cache_alloc, beside-check, beside-cache_free, beside-flush, low_bytes-beside_high, low_bytes-beside_zone, low_bytes-beside_cache, temp_bytes-beside_low, temp_bytes-beside_zone, temp_bytes-beside_cache, zone_bytes-beside_low, zone_bytes-beside_high, zone_bytes-beside_cache, users-with_low_bytes, users-with_temp_bytes, users-build_low, users-build_cache, users-copy_low_to_cache, keeps-build_low, keeps-build_cache, keeps-copy_low_to_cache, cache-build_low, cache-low_free, has-cache_new, beside-build_low, beside-build_cache, beside-copy_low_to_cache, Laid-build_cache, Laid-copy_low_to_cache, temp_bytes-small, has_bytes, peek_bytes-built, peek_bytes-copied, front-cache_built, front-copied, image_there, held-build_cache, held-copy_low_to_cache, peek_bytes-build_cache, peek_bytes-copy_low_to_cache, peek_place-build_cache, peek_place-copy_low_to_cache, has-build_cache, has-copy_low_to_cache, recency-build_cache, recency-copy_low_to_cache)

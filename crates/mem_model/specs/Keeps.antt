@@ -27,10 +27,15 @@ abbrev pub AreLow : Memory → List ℕ → Type 0
 AreLow m places = All (λ place. IsSome (low_bytes m place)) places
 
 -- What is left of the blocks that a table names. The low block at each of the places is there with the bytes that it had. Each
--- user that has a block after had the same before, at whatever place, but for the excepted ones.
+-- user that has a block after had the same before, at whatever place, but for the excepted ones. The cache has as many users.
 pub record Keeps (lows except : List ℕ) (before after : Memory) : Type 0 where
   pub low : (place : ℕ) (bytes : List ℕ) → Contains lows place → low_bytes before place ≡ Some bytes → low_bytes after place ≡ Some bytes
   pub users : (user : ℕ) (b : CacheBlock) → ¬ Contains except user → held after.cache user ≡ Some b → held before.cache user ≡ Some b
+  pub count : after.users ≡ before.users
+
+-- the same of each table of low places
+abbrev pub KeepsAll : (except : List ℕ) → (before after : Memory) → Type 0
+KeepsAll except before after = (lows : List ℕ) → Keeps lows except before after
 
 abbrev no_cache : Cache
 no_cache = record { blocks = []; recency = [] }

@@ -2,7 +2,7 @@
 //!
 //! A function over any store `M` is a test that every store has to pass. The tests at the top run each on a plain store.
 
-ghost use Rattle.std.specs.Prelude.{◌≡◌, ◌≢◌, ◌≤◌, ◌<◌, ◌^◌, ℕ, List, [], length, true, IfOk, IfSome, IsSome, OnSome, Ok, Some, None};
+ghost use Rattle.std.specs.Prelude.{◌≡◌, ◌≢◌, ◌≤◌, ◌<◌, ◌^◌, ℕ, List, [], ◌∷◌, length, true, IfOk, IfSome, IsSome, OnSome, Ok, Some, None};
 ghost use Rattle.mem_model.specs.Memory.{new_memory};
 ghost use Rattle.mem_model.specs.Keeps.{AreLow, Keeps};
 ghost use Rattle.mem_model.specs.Cache.{peek_bytes};
@@ -64,7 +64,8 @@ fn cache_blocks_of_a_plain_store(rt: HostRuntime) -> Result<(), Fail> {
     cache_blocks_hop_down(&rt, plain(rt.alloc())?);
     a_cache_block_without_a_gap_leaves(&rt, plain(rt.alloc())?);
     the_cache_refuses_and_evicts(&rt, plain(rt.alloc())?)?;
-    images_come_to_the_front_of_blocks(&rt, plain(rt.alloc())?)
+    images_come_to_the_front_of_blocks(&rt, plain(rt.alloc())?)?;
+    an_image_goes_through_the_low_hunk(&rt, plain(rt.alloc())?)
 }
 
 #[test]
@@ -359,6 +360,39 @@ fn builds_cache<M: Store, B: Builder>(
     Some(())
 }
 
+// Builds the image of the first temporary bytes in a new low block, copies it to a new block of a user, and frees the low
+// block.
+#[tactic(auto, using(crate::proofs::CacheLaws::cache_laws, crate::proofs::Laws::store_laws))]
+fn builds_through_low<M: Store, B: Builder>(
+    store: &mut M,
+    user: u32,
+    len: usize,
+    builder: &B,
+) -> Option<()>
+    requires source { HasBytes (temp_bytes (M.state store.old)) len }
+    requires user { user < (M.state store.old).users }
+    ensures kept { (lows : List ℕ) → AreLow (M.state store.old) lows →
+        Keeps lows (user ∷ []) (M.state store.old) (M.state store.new) }
+{
+    let source = store.temp_bytes()?;
+    let size = builder.size(&source[..len]).ok()?;
+    if size > 65_536 {
+        return None;
+    }
+    let mark = store.low_mark();
+    let Ok(place) = store.low_alloc(size, b"image") else {
+        return None;
+    };
+    store.build_low(place, len, builder);
+    if store.cache_alloc(user, size, b"image").is_err() {
+        let _ = store.low_free(mark);
+        return None;
+    }
+    store.copy_low_to_cache(place, user, size as u32);
+    let _ = store.low_free(mark);
+    Some(())
+}
+
 // Copies the first bytes of a low block to a user's block, where both have as many.
 #[tactic(auto, using(crate::proofs::CacheLaws::cache_laws))]
 fn copies<M: Store>(store: &mut M, place: Place, user: u32, size: u32) -> Option<()>
@@ -519,6 +553,19 @@ fn images_come_to_the_front_of_blocks<M: Store>(rt: &impl Abort, mut store: M) -
     let copied = *b"quakequ\0";
     assert_eq!(rt; store.peek(1), Some(copied.as_slice()));
     assert_cache(rt, &store, &[(49_216, 1), (49_264, 0)], &[0, 1]);
+    Ok(())
+}
+
+#[tactic(auto, using(crate::proofs::CacheLaws::cache_laws, crate::proofs::Laws::store_laws))]
+fn an_image_goes_through_the_low_hunk<M: Store>(rt: &impl Abort, mut store: M) -> Result<(), Fail>
+    requires { (M.state store).users ≡ 8 }
+{
+    store.temp_alloc(16)?;
+    put(store.temp_bytes_mut(), b"quake");
+    assert_eq!(rt; builds_through_low(&mut store, 2, 3, &Doubled), Some(()));
+    let copied = *b"quaqua\0\0";
+    assert_eq!(rt; store.peek(2), Some(copied.as_slice()));
+    assert_eq!(rt; (store.low_mark(), store.temp_active()), (49_168, true));
     Ok(())
 }
 
