@@ -5,3 +5,4 @@ pub mod HeaderLaws
 pub mod Passing
 pub mod SampleLaws
 pub mod SoundLaws
+pub mod ImageLaws
