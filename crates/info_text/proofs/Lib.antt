@@ -1,0 +1,3 @@
+mod DigitLaws
+mod Examples
+mod LineLaws

@@ -1,0 +1,14 @@
+-- What a resource says of itself: a function of its name and of what its image tells.
+use Rattle.std.specs.Prelude.{ℕ, List, [], ◌∷◌, Option, Some, None, decimal, codes}
+use Rattle.reply_pieces.specs.Pieces.{joined}
+use Rattle.wav_load.specs.declared.header.SoundHeader.{SoundHeader}
+
+-- the number, or that there is none
+abbrev pub number_or_none : Option ℕ → List ℕ
+number_or_none (Some number) = decimal number
+number_or_none None = codes "none"
+
+abbrev pub sound_text : List ℕ → SoundHeader → List ℕ
+sound_text name header = joined (codes "sound " ∷ name ∷ codes " length " ∷ decimal header.length
+    ∷ codes " loop " ∷ number_or_none header.loop_start ∷ codes " speed " ∷ decimal header.speed
+    ∷ codes " width " ∷ decimal header.width ∷ codes "\n" ∷ [])

@@ -1,0 +1,111 @@
+use super::*;
+use base_fields::game_name;
+use outside_io::MemSink;
+use std::alloc::{AllocError, Global};
+use std::test::Fail;
+
+// The bytes from 0 on.
+const BYTES: [u8; 64] = [
+    0, 1, 2, 3, 4, 5, 6, 7, 8, 9, 10, 11, 12, 13, 14, 15, 16, 17, 18, 19, 20, 21, 22, 23, 24, 25,
+    26, 27, 28, 29, 30, 31, 32, 33, 34, 35, 36, 37, 38, 39, 40, 41, 42, 43, 44, 45, 46, 47, 48, 49,
+    50, 51, 52, 53, 54, 55, 56, 57, 58, 59, 60, 61, 62, 63,
+];
+
+const FIRST: &[u8] = b"000102030405060708090a0b0c0d0e0f101112131415161718191a1b1c1d1e1f";
+
+const SECOND: &[u8] = b"202122232425262728292a2b2c2d2e2f303132333435363738393a3b3c3d3e3f";
+
+// The image of a sound of two samples, up to its loop's start and from its speed on.
+const LENGTH: &[u8] = b"\x02\0\0\0";
+
+const SPEED: &[u8] = b"\x11\x2b\0\0\x01\0\0\0\0\0\0\0\0\xff";
+
+fn joined(alloc: Global, parts: &[&[u8]]) -> Result<Vec<u8>, AllocError> {
+    let mut text = Vec::new(alloc);
+    for part in parts {
+        text.extend_from_slice(part)?;
+    }
+    Ok(text)
+}
+
+#[test]
+fn an_image_has_its_lines(rt: HostRuntime) -> Result<(), Fail> {
+    let alloc = rt.alloc();
+    let name = game_name(b"x.wav").expect(&rt, "a name");
+    let cases: [(usize, &[&[u8]]); 6] = [
+        (0, &[b"dump x.wav 0\n"]),
+        (1, &[b"dump x.wav 1\n00\n"]),
+        (31, &[b"dump x.wav 31\n", &FIRST[..62], b"\n"]),
+        (32, &[b"dump x.wav 32\n", FIRST, b"\n"]),
+        (33, &[b"dump x.wav 33\n", FIRST, b"\n20\n"]),
+        (64, &[b"dump x.wav 64\n", FIRST, b"\n", SECOND, b"\n"]),
+    ];
+    for (count, parts) in cases {
+        let text = joined(alloc, parts)?;
+        let mut out = MemSink::create(alloc, 200, Vec::new(alloc))?;
+        dump(&name, &BYTES[..count], &mut out)?;
+        assert_eq!(rt; out.got(), text.as_slice(), "of {count}");
+    }
+    Ok(())
+}
+
+// Each sink has room for so many bytes, and its put of this number fails. The title has five puts, and a line has one.
+#[test]
+fn a_dump_is_cut_where_a_put_fails(rt: HostRuntime) -> Result<(), Fail> {
+    let alloc = rt.alloc();
+    let name = game_name(b"x.wav").expect(&rt, "a name");
+    let cases: [(usize, u64, &[&[u8]]); 5] = [
+        (0, 9, &[]),
+        (3, 9, &[b"dum"]),
+        (200, 5, &[b"dump x.wav 64\n"]),
+        (200, 6, &[b"dump x.wav 64\n", FIRST, b"\n"]),
+        (143, 9, &[b"dump x.wav 64\n", FIRST, b"\n", SECOND]),
+    ];
+    for (capacity, fails, parts) in cases {
+        let text = joined(alloc, parts)?;
+        let fails = Vec::from_slice(alloc, &[fails])?;
+        let mut out = MemSink::create(alloc, capacity, fails)?;
+        assert!(rt; dump(&name, &BYTES, &mut out).is_err());
+        assert_eq!(rt; out.got(), text.as_slice(), "at {capacity}");
+    }
+    Ok(())
+}
+
+#[test]
+fn a_sound_has_its_line(rt: HostRuntime) -> Result<(), Fail> {
+    let alloc = rt.alloc();
+    let name = game_name(b"x.wav").expect(&rt, "a name");
+    let cases: [(&[u8], &[u8], &[u8]); 4] = [
+        (
+            b"\xff\xff\xff\xff",
+            SPEED,
+            b"sound x.wav length 2 loop none speed 11025 width 1\n",
+        ),
+        (
+            b"\0\0\0\0",
+            SPEED,
+            b"sound x.wav length 2 loop 0 speed 11025 width 1\n",
+        ),
+        (
+            b"\xfe\xff\xff\xff",
+            SPEED,
+            b"sound x.wav length 2 loop 4294967294 speed 11025 width 1\n",
+        ),
+        (
+            b"\x01\0\0\0",
+            b"\0\x77\x01\0\x02\0\0\0\0\0\0\0\0\0\0\0",
+            b"sound x.wav length 2 loop 1 speed 96000 width 2\n",
+        ),
+    ];
+    for (loop_start, rest, text) in cases {
+        let image = joined(alloc, &[LENGTH, loop_start, rest])?;
+        assert!(rt; image.len() >= 20);
+        let mut out = MemSink::create(alloc, 100, Vec::new(alloc))?;
+        info_sound(&name, &image, &mut out)?;
+        assert_eq!(rt; out.got(), text);
+        let mut short = MemSink::create(alloc, 30, Vec::new(alloc))?;
+        assert!(rt; info_sound(&name, &image, &mut short).is_err());
+        assert_eq!(rt; short.got(), &text[..30]);
+    }
+    Ok(())
+}
