@@ -11,11 +11,13 @@ use Rattle.mem_model.specs.Places.{zone_need}
 use Rattle.mem_model.specs.Hunk.{over}
 use Rattle.mem_model.specs.Zone.{zone_bytes, with_zone_bytes}
 use Rattle.mem_model.specs.Apart.{NoneIs, AreUsed}
+use Rattle.mem_model.specs.Keeps.{beside_zone}
 use Rattle.mem_model.specs.Operations.{z_alloc, z_free}
 use Rattle.mem_model.proofs.Laying.{length-over, over_front}
 use Rattle.mem_model.proofs.ZoneLaying.{Laid-z_alloc, Laid-z_free, Laid-with_zone_bytes}
 use Rattle.mem_model.proofs.ZoneLaws.{zone_bytes-z_alloc, zone_bytes-new, zone_place_apart, zone_bytes-z_free, zone_bytes-written, zone_bytes-elsewhere, z_alloc-refusal, NoneIs-z_new}
-use Rattle.mem_model.proofs.Untouched.{low-z_alloc, high-z_alloc, temp-z_alloc, size-z_alloc, low-z_free, high-z_free, temp-z_free, size-z_free}
+use Rattle.mem_model.proofs.CacheLaws.{beside-z_alloc, beside-z_free}
+use Rattle.mem_model.proofs.Keeping.{beside-with_zone_bytes}
 use Rattle.zone_values.specs.Values.{value_at, put_value, value_put, replace_value, old_freed, with_zero}
 use Rattle.zone_values.proofs.Writing.{with_zone_bytes-over}
 
@@ -149,38 +151,18 @@ replace_value-refusal m value old told h =
     let put = put_value-refusal m value told h in
     (put.0, ap (λ (answer : Result ℕ ℕ). (old_freed old answer (put_value m value).after).zone) h ∙ put.1)
 
--- Neither changes the hunks.
-pub size-put_value : (m : Memory) (value : List ℕ) → (put_value m value).after.size ≡ m.size
-unfolding put_value with_zone_bytes
-size-put_value m value = let given = size-z_alloc m (length value + 1) in put_steps (λ n. n.size ≡ m.size) value _ _ (λ place e. given) given
+-- Neither changes anything beside the zone.
+pub beside-put_value : (m : Memory) (value : List ℕ) → beside_zone (put_value m value).after ≡ beside_zone m
+unfolding put_value
+beside-put_value m value =
+    let given = beside-z_alloc m (length value + 1) in
+    put_steps (λ n. beside_zone n ≡ beside_zone m) value _ _ (λ place e. beside-with_zone_bytes _ place (with_zero value) ∙ given) given
 
-pub low-put_value : (m : Memory) (value : List ℕ) → (put_value m value).after.low ≡ m.low
-unfolding put_value with_zone_bytes
-low-put_value m value = let given = low-z_alloc m (length value + 1) in put_steps (λ n. n.low ≡ m.low) value _ _ (λ place e. given) given
-
-pub high-put_value : (m : Memory) (value : List ℕ) → (put_value m value).after.high ≡ m.high
-unfolding put_value with_zone_bytes
-high-put_value m value = let given = high-z_alloc m (length value + 1) in put_steps (λ n. n.high ≡ m.high) value _ _ (λ place e. given) given
-
-pub temp-put_value : (m : Memory) (value : List ℕ) → (put_value m value).after.temp ≡ m.temp
-unfolding put_value with_zone_bytes
-temp-put_value m value = let given = temp-z_alloc m (length value + 1) in put_steps (λ n. n.temp ≡ m.temp) value _ _ (λ place e. given) given
-
-pub size-replace_value : (m : Memory) (value : List ℕ) (old : ℕ) → (replace_value m old value).after.size ≡ m.size
+pub beside-replace_value : (m : Memory) (value : List ℕ) (old : ℕ) → beside_zone (replace_value m old value).after ≡ beside_zone m
 unfolding replace_value
-size-replace_value m value old = let given = size-put_value m value in freed_steps (λ n. n.size ≡ m.size) old _ _ (λ place e. size-z_free _ old ∙ given) given
-
-pub low-replace_value : (m : Memory) (value : List ℕ) (old : ℕ) → (replace_value m old value).after.low ≡ m.low
-unfolding replace_value
-low-replace_value m value old = let given = low-put_value m value in freed_steps (λ n. n.low ≡ m.low) old _ _ (λ place e. low-z_free _ old ∙ given) given
-
-pub high-replace_value : (m : Memory) (value : List ℕ) (old : ℕ) → (replace_value m old value).after.high ≡ m.high
-unfolding replace_value
-high-replace_value m value old = let given = high-put_value m value in freed_steps (λ n. n.high ≡ m.high) old _ _ (λ place e. high-z_free _ old ∙ given) given
-
-pub temp-replace_value : (m : Memory) (value : List ℕ) (old : ℕ) → (replace_value m old value).after.temp ≡ m.temp
-unfolding replace_value
-temp-replace_value m value old = let given = temp-put_value m value in freed_steps (λ n. n.temp ≡ m.temp) old _ _ (λ place e. temp-z_free _ old ∙ given) given
+beside-replace_value m value old =
+    let given = beside-put_value m value in
+    freed_steps (λ n. beside_zone n ≡ beside_zone m) old _ _ (λ place e. beside-z_free _ old ∙ given) given
 
 -- for callers: `#[tactic(auto, using(zone_values::proofs::ValueLaws::value_laws))]`
-pub ruleset value_laws = (Laid-put_value, Laid-replace_value, put_apart, NoneIs-put_value, zone_bytes-put_value, some-put_new, value_at-put_value, replace_apart, NoneIs-replace_value, zone_bytes-replace_value, some-replace_new, value_at-replace_value, size-put_value, low-put_value, high-put_value, temp-put_value, size-replace_value, low-replace_value, high-replace_value, temp-replace_value)
+pub ruleset value_laws = (Laid-put_value, Laid-replace_value, put_apart, NoneIs-put_value, zone_bytes-put_value, some-put_new, value_at-put_value, replace_apart, NoneIs-replace_value, zone_bytes-replace_value, some-replace_new, value_at-replace_value, beside-put_value, beside-replace_value)

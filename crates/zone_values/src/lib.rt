@@ -7,6 +7,7 @@ ghost use Rattle.mem_model.specs.Laid.{Laid, IsText};
 ghost use Rattle.mem_model.specs.Told.{zone_answer};
 ghost use Rattle.mem_model.specs.Zone.{zone_bytes};
 ghost use Rattle.mem_model.specs.Hunk.{over};
+ghost use Rattle.mem_model.specs.Keeps.{beside_zone};
 ghost use Rattle.zone_values.specs.Values.{value_at, put_value, replace_value, with_zero};
 
 use base_fields::before_zero;
@@ -29,6 +30,7 @@ pub fn put_value<M: Store>(store: &mut M, value: &[u8]) -> Result<Place, ZoneErr
     requires short { length value.now < 2 ^ 62 }
     ensures gives { Gives (put_value (M.state store.old) value.now) M.frugal (M.state store.old) (zone_answer result)
         (M.state store.new) }
+    ensures beside { beside_zone (M.state store.new) ≡ beside_zone (M.state store.old) }
     ensures was_laid { Laid (M.state store.old) }
     ensures laid { Laid (M.state store.new) }
 {
@@ -58,6 +60,7 @@ pub fn replace_value<M: Store>(store: &mut M, old: Place, value: &[u8]) -> Resul
     requires short { length value.now < 2 ^ 62 }
     ensures gives { Gives (replace_value (M.state store.old) old.0 value.now) M.frugal (M.state store.old)
         (zone_answer result) (M.state store.new) }
+    ensures beside { beside_zone (M.state store.new) ≡ beside_zone (M.state store.old) }
     ensures was_laid { Laid (M.state store.old) }
     ensures laid { Laid (M.state store.new) }
 {

@@ -1,7 +1,11 @@
-use Rattle.std.proofs.Common.{◌+◌, length, arith}
+use Rattle.std.proofs.Common.{◌≡◌, ◌+◌, ◌∙◌, length, refl, ap, arith}
 use Rattle.mem_model.proofs.ZoneLaying.{Laid-with_zone_bytes}
 use Rattle.mem_model.proofs.ZoneLaws.{some-z_new, length-z_new}
+use Rattle.mem_model.specs.Memory.{Memory}
+use Rattle.mem_model.specs.Keeps.{beside_zone}
+use Rattle.mem_model.proofs.CacheLaws.{after_gives}
 use Rattle.zone_values.proofs.Putting.{put_given, put_without}
+use Rattle.zone_values.proofs.ValueLaws.{beside-put_value}
 use Rattle.zone_values.proofs.put_value.Goals as goal
 
 pub zone_bytes_mut-requires : goal.zone_bytes_mut-requires
@@ -22,3 +26,12 @@ returns-in-Ok-clause-laid g c = rw g.met.M.Store.zone_writes (Laid-with_zone_byt
 
 pub returns-in-Err-clause-gives : goal.returns-in-Err-clause-gives
 returns-in-Err-clause-gives g c = put_without _ _ c.args.value.now _ c.in-Err.error c.in-Err.ensures.gives
+
+-- All beside the zone is as it was.
+pub returns-in-Ok-clause-beside : goal.returns-in-Ok-clause-beside
+returns-in-Ok-clause-beside g c = ap (λ (n : Memory). beside_zone n) (returns-in-Ok-clause-gives g c).after ∙ beside-put_value _ c.args.value.now
+
+pub returns-in-Err-clause-beside : goal.returns-in-Err-clause-beside
+returns-in-Err-clause-beside g c =
+    let m = g.M.Store.state c.args.store.now in
+    after_gives (λ n. beside_zone n ≡ beside_zone m) _ _ _ _ _ (returns-in-Err-clause-gives g c) (beside-put_value m c.args.value.now) refl
