@@ -10,10 +10,11 @@ use Rattle.mem_model.specs.Memory.{Memory, new_memory}
 use Rattle.mem_model.specs.Answer.{Answered}
 use Rattle.mem_model.specs.Laid.{Laid, IsText}
 use Rattle.mem_model.specs.Places.{zone_need}
+use Rattle.mem_model.specs.Keeps.{beside_zone}
 use Rattle.mem_model.specs.Zone.{zone_bytes}
 use Rattle.zone_values.specs.Held.{AreHeld}
 use Rattle.zone_values.specs.Values.{value_at, put_value}
-use Rattle.zone_values.proofs.ValueLaws.{Laid-put_value, zone_bytes-put_value, value_at-put_value, some-put_new, size-put_value, low-put_value, high-put_value, temp-put_value}
+use Rattle.zone_values.proofs.ValueLaws.{Laid-put_value, zone_bytes-put_value, value_at-put_value, some-put_new, beside-put_value}
 use Rattle.zone_values.proofs.HeldLaws.{value_at-kept, AreHeld-put_new, AreHeld-first}
 use Rattle.zone_values.proofs.OneFree.{free_sizes, put_value-one_free, free_sizes-put_value}
 use Rattle.cvar_table.specs.Cvars.{Cvar, Default, defaults, cvar_of, cvar_value, created, created_by, created_first, places_of, HoldsCvars}
@@ -39,26 +40,13 @@ zone_bytes-created m (d ∷ ds) place bytes laid there =
     let first = zone_bytes-put_value m d.value bytes place laid there in
     by_first (λ n. zone_bytes n place ≡ Some bytes) d.name _ _ (λ n. created n ds) first (zone_bytes-created (put_value m d.value).after ds place bytes (Laid-put_value m d.value laid) first)
 
--- It doesn't change the hunks.
-pub size-created : (m : Memory) (ds : List Default) → (created m ds).after.size ≡ m.size
+-- It changes nothing beside the zone.
+pub beside-created : (m : Memory) (ds : List Default) → beside_zone (created m ds).after ≡ beside_zone m
 unfolding created
-size-created m [] = refl
-size-created m (d ∷ ds) = let first = size-put_value m d.value in by_first (λ n. n.size ≡ m.size) d.name _ _ (λ n. created n ds) first (size-created (put_value m d.value).after ds ∙ first)
-
-pub low-created : (m : Memory) (ds : List Default) → (created m ds).after.low ≡ m.low
-unfolding created
-low-created m [] = refl
-low-created m (d ∷ ds) = let first = low-put_value m d.value in by_first (λ n. n.low ≡ m.low) d.name _ _ (λ n. created n ds) first (low-created (put_value m d.value).after ds ∙ first)
-
-pub high-created : (m : Memory) (ds : List Default) → (created m ds).after.high ≡ m.high
-unfolding created
-high-created m [] = refl
-high-created m (d ∷ ds) = let first = high-put_value m d.value in by_first (λ n. n.high ≡ m.high) d.name _ _ (λ n. created n ds) first (high-created (put_value m d.value).after ds ∙ first)
-
-pub temp-created : (m : Memory) (ds : List Default) → (created m ds).after.temp ≡ m.temp
-unfolding created
-temp-created m [] = refl
-temp-created m (d ∷ ds) = let first = temp-put_value m d.value in by_first (λ n. n.temp ≡ m.temp) d.name _ _ (λ n. created n ds) first (temp-created (put_value m d.value).after ds ∙ first)
+beside-created m [] = refl
+beside-created m (d ∷ ds) =
+    let first = beside-put_value m d.value in
+    by_first (λ n. beside_zone n ≡ beside_zone m) d.name _ _ (λ n. created n ds) first (beside-created (put_value m d.value).after ds ∙ first)
 
 -- What a creation of some cvars did: the block of the first, and the rest.
 pub record IsCreated (m : Memory) (d : Default) (ds : List Default) (cvars : List Cvar) : Type 0 where
@@ -198,4 +186,4 @@ pub cvar_value-defaults : (m : Memory) (cvars : List Cvar) (name : List ℕ) →
 cvar_value-defaults m cvars name laid h = cvar_value-created m defaults cvars name laid defaults_texts h
 
 -- for callers: `#[tactic(auto, using(cvar_table::proofs::CreatedLaws::created_laws))]`
-pub ruleset created_laws = (Laid-created, zone_bytes-created, AreHeld-created, HoldsCvars-created, cvar_value-defaults, size-created, low-created, high-created, temp-created)
+pub ruleset created_laws = (Laid-created, zone_bytes-created, AreHeld-created, HoldsCvars-created, cvar_value-defaults, beside-created)

@@ -6,11 +6,12 @@ use Rattle.std.proofs.lemmas.List.{append-nil}
 use Rattle.mem_model.specs.Memory.{Memory}
 use Rattle.mem_model.specs.Laid.{Laid, IsText}
 use Rattle.mem_model.specs.Places.{zone_need}
+use Rattle.mem_model.specs.Keeps.{beside_zone}
 use Rattle.mem_model.specs.Zone.{zone_bytes}
 use Rattle.mem_model.specs.Apart.{NoneIs}
 use Rattle.zone_values.specs.Held.{AreHeld, OthersStay}
 use Rattle.zone_values.specs.Values.{value_at, replace_value}
-use Rattle.zone_values.proofs.ValueLaws.{Laid-replace_value, zone_bytes-replace_value, value_at-replace_value, replace_value-refusal, size-replace_value, low-replace_value, high-replace_value, temp-replace_value}
+use Rattle.zone_values.proofs.ValueLaws.{Laid-replace_value, zone_bytes-replace_value, value_at-replace_value, replace_value-refusal, beside-replace_value}
 use Rattle.zone_values.proofs.HeldLaws.{value_at-kept, AreHeld-same, AreHeld-replace_value, AreHeld-turned}
 use Rattle.cvar_table.specs.Cvars.{Cvar, cvar_of, cvar_value, with_place, CvarSet, set_cvar, set_found, set_by, places_of, HoldsCvars}
 use Rattle.mem_model.proofs.Untouched.{zone_bytes-same}
@@ -163,18 +164,11 @@ cvar_value-set_other m cvars name value other laid holds differ =
         ∙ value_at-kept m _ another.place (some-cvar m cvars other another holds k) (λ bytes there. zone_bytes-replace_value m value bytes cvar.place another.place laid (cvars_apart cvars name other cvar another holds.apart differ h k) there)
         ∙ sym (value_of_cvar m cvars other another k)
 
--- Setting doesn't change the hunks.
-pub size-set_cvar : (m : Memory) (cvars : List Cvar) (name value : List ℕ) → (set_cvar m cvars name value).given.after.size ≡ m.size
-size-set_cvar m cvars name value = set_cases (λ s. s.given.after.size ≡ m.size) m cvars name value (λ h. refl) (λ cvar told h k. size-replace_value m value cvar.place) (λ cvar place h k. size-replace_value m value cvar.place)
-
-pub low-set_cvar : (m : Memory) (cvars : List Cvar) (name value : List ℕ) → (set_cvar m cvars name value).given.after.low ≡ m.low
-low-set_cvar m cvars name value = set_cases (λ s. s.given.after.low ≡ m.low) m cvars name value (λ h. refl) (λ cvar told h k. low-replace_value m value cvar.place) (λ cvar place h k. low-replace_value m value cvar.place)
-
-pub high-set_cvar : (m : Memory) (cvars : List Cvar) (name value : List ℕ) → (set_cvar m cvars name value).given.after.high ≡ m.high
-high-set_cvar m cvars name value = set_cases (λ s. s.given.after.high ≡ m.high) m cvars name value (λ h. refl) (λ cvar told h k. high-replace_value m value cvar.place) (λ cvar place h k. high-replace_value m value cvar.place)
-
-pub temp-set_cvar : (m : Memory) (cvars : List Cvar) (name value : List ℕ) → (set_cvar m cvars name value).given.after.temp ≡ m.temp
-temp-set_cvar m cvars name value = set_cases (λ s. s.given.after.temp ≡ m.temp) m cvars name value (λ h. refl) (λ cvar told h k. temp-replace_value m value cvar.place) (λ cvar place h k. temp-replace_value m value cvar.place)
+-- Setting changes nothing beside the zone.
+pub beside-set_cvar : (m : Memory) (cvars : List Cvar) (name value : List ℕ) → beside_zone (set_cvar m cvars name value).given.after ≡ beside_zone m
+beside-set_cvar m cvars name value =
+    set_cases (λ s. beside_zone s.given.after ≡ beside_zone m) m cvars name value (λ h. refl)
+    (λ cvar told h k. beside-replace_value m value cvar.place) (λ cvar place h k. beside-replace_value m value cvar.place)
 
 -- for callers: `#[tactic(auto, using(cvar_table::proofs::CvarLaws::cvar_laws))]`
-pub ruleset cvar_laws = (HoldsCvars-same, Laid-set_cvar, set_cvar-others, AreHeld-set_cvar, HoldsCvars-set_cvar, is_some-set_cvar, cvar_value-set_cvar, cvar_value-set_other, size-set_cvar, low-set_cvar, high-set_cvar, temp-set_cvar)
+pub ruleset cvar_laws = (HoldsCvars-same, Laid-set_cvar, set_cvar-others, AreHeld-set_cvar, HoldsCvars-set_cvar, is_some-set_cvar, cvar_value-set_cvar, cvar_value-set_other, beside-set_cvar)

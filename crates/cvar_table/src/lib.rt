@@ -7,6 +7,7 @@ ghost use Rattle.std.specs.Prelude.{length, take, map, position, slice_get, byte
 ghost use Rattle.std.specs.Option.{option_map};
 ghost use Rattle.mem_model.specs.Answer.{Gives};
 ghost use Rattle.mem_model.specs.Laid.{Laid, IsText};
+ghost use Rattle.mem_model.specs.Keeps.{beside_zone};
 ghost use Rattle.cvar_table.specs.Cvars.{defaults, created, cvar_of, cvar_value, set_cvar, places_of, HoldsCvars};
 ghost use Rattle.cvar_table.specs.Cvars.{ReadAlike, OthersReadAlike};
 ghost use Rattle.zone_values.specs.Held.{OthersStay};
@@ -70,6 +71,7 @@ impl Cvars {
         ensures gives { (n : ℕ) × Gives (created (M.state store.old) defaults) M.frugal
             (created (M.state store.old) (take n defaults)).after (zone_told result) (M.state store.new) }
         ensures holds { IfOk result (λ cvars. HoldsCvars (M.state store.new) cvars) }
+        ensures beside { beside_zone (M.state store.new) ≡ beside_zone (M.state store.old) }
         ensures was_laid { Laid (M.state store.old) }
         ensures laid { Laid (M.state store.new) }
     {
@@ -144,6 +146,7 @@ impl Cvars {
 
         ensures holds { HoldsCvars (M.state store.new) self.new }
         ensures others { OthersStay (M.state store.old) (M.state store.new) (places_of self.old) (places_of self.new) }
+        ensures beside { beside_zone (M.state store.new) ≡ beside_zone (M.state store.old) }
         ensures laid { Laid (M.state store.old) → Laid (M.state store.new) }
     {
         match position_of(name) {

@@ -1,4 +1,4 @@
-use Rattle.std.proofs.Common.{Ok, refl, arith}
+use Rattle.std.proofs.Common.{Ok, refl, ◌∙◌, arith}
 use Rattle.std.proofs.lemmas.List.{length-set}
 use Rattle.mem_model.specs.Answer.{Answers}
 use Rattle.mem_model.specs.declared.answers.Place.{Place}
@@ -11,12 +11,13 @@ use Rattle.cvar_table.proofs.Cvars.create.Goals.{After-loop-at}
 use Rattle.cvar_table.proofs.Cvars.create.Given.{Over}
 
 pub loop-at-init : goal.loop-at-init
-loop-at-init g c = record { eight = refl; so_far = created-none _; same = λ none. refl; laid = λ low. absurd (omega arith) }
+loop-at-init g c = record { eight = refl; so_far = created-none _; beside = refl; same = λ none. refl; laid = λ low. absurd (omega arith) }
 
 pub loop-at-preserved : goal.loop-at-preserved
 loop-at-preserved g c = record {
   eight = omega (arith, c.loop-at.invariant.eight, length-set {A = Place});
   so_far = created-more _ _ _ defaults c.loop-at.places c.loop-at.at c.in-Ok.place _ c.loop-at.invariant.eight c.first_value.ensures c.loop-at.invariant.so_far c.in-Ok.ensures.gives;
+  beside = c.in-Ok.ensures.beside ∙ c.loop-at.invariant.beside;
   same = λ none. absurd (omega arith);
   laid = λ low. laid_start _ _ c.loop-at.at c.loop-at.invariant.same c.loop-at.invariant.laid c.in-Ok.ensures.was_laid;
 }

@@ -24,6 +24,7 @@ returns-in-Ok g c =
       unset_read = λ unset. absurd (unset refl);
       holds = holds_done m _ cvars _ name value _ laid c.requires.holds done.0 done.1;
       others = stay_done m _ cvars _ name value _ laid c.requires.holds done.0 done.1;
+      beside = c.in-Ok.ensures.beside;
       laid = λ was. c.in-Ok.ensures.laid;
     }
 
@@ -45,6 +46,7 @@ returns-in-Err g c =
       unset_read = λ unset. read_undone m _ cvars name value _ laid c.requires.holds c.in-Err.error undone.0;
       holds = holds_undone m _ cvars name value _ laid c.requires.holds c.in-Err.error undone.0 undone.1;
       others = stay_undone m _ cvars name value _ laid c.requires.holds c.in-Err.error undone.0 undone.1;
+      beside = c.in-Err.ensures.beside;
       laid = λ was. c.in-Err.ensures.laid;
     }
 
@@ -61,5 +63,6 @@ returns-in-None g c =
       unset_read = λ unset name. refl;
       holds = c.requires.holds;
       others = λ place bytes none there. (none, there);
+      beside = refl;
       laid = λ was. was;
     }
