@@ -9,15 +9,18 @@ use Rattle.base_fields.specs.Texts.{until_zero}
 use Rattle.mem_model.specs.Memory.{Memory}
 use Rattle.mem_model.specs.Laid.{Laid, IsText}
 use Rattle.mem_model.specs.Places.{zone_need}
+use Rattle.mem_model.specs.Keeps.{beside_zone}
 use Rattle.mem_model.specs.Zone.{zone_bytes}
 use Rattle.mem_model.specs.Apart.{AreUsed}
 use Rattle.mem_model.specs.Operations.{z_alloc}
 use Rattle.mem_model.proofs.Untouched.{zone_bytes-same}
+use Rattle.mem_model.proofs.CacheLaws.{beside-z_alloc, beside-z_free}
+use Rattle.mem_model.proofs.Keeping.{beside-with_zone_bytes}
 use Rattle.mem_model.proofs.ZoneLaying.{Laid-z_alloc, Laid-z_free, Laid-with_zone_bytes}
 use Rattle.mem_model.proofs.ZoneLaws.{zone_bytes-z_alloc, z_alloc-refusal}
 use Rattle.zone_values.specs.Values.{value_at, put_value, replace_value}
 use Rattle.zone_values.proofs.HeldLaws.{some_bytes}
-use Rattle.zone_values.proofs.ValueLaws.{Laid-put_value, Laid-replace_value, put_value-refusal, replace_value-refusal}
+use Rattle.zone_values.proofs.ValueLaws.{Laid-put_value, Laid-replace_value, beside-put_value, beside-replace_value, put_value-refusal, replace_value-refusal}
 use Rattle.cmd_buffer.specs.Aliases.{Alias, HoldsAliases, aliases_of, alias_places, AliasText, text_of, alias_texts, alias_value, with_value, with_text, IsReadBack, AliasRefusal, AliasRefusal.LongName, AliasRefusal.Full, AliasSet, refused, value_reset, record_written, record_added, added, changed, set_alias}
 use Rattle.cmd_buffer.specs.AliasCalls.{given_back, set_told, IsSet, RanOutSetting, GivesSet}
 use Rattle.cmd_buffer.specs.declared.aliases.AliasError.{AliasError}
@@ -81,6 +84,36 @@ Laid-set_alias m newest name value laid =
     written : (place : ℕ) (answer : Result ℕ ℕ) → Laid (record_written newest name place (put_value (z_alloc m 40).after value).after answer).after
     written place (Ok v) = Laid-with_zone_bytes _ _ _ (Laid-put_value _ value laid1)
     written place (Err asked) = Laid-z_free _ place (Laid-put_value _ value laid1)
+
+-- Nothing beside the zone changes,
+pub beside-set_alias : (m : Memory) (newest : Option ℕ) (name value : List ℕ) → beside_zone (set_alias m newest name value).after ≡ beside_zone m
+beside-set_alias m newest name value =
+    by_name (λ s. beside_zone s.after ≡ beside_zone m) m newest name value (λ long. refl)
+    (λ a fits is. by_reset (λ s. beside_zone s.after ≡ beside_zone m) m newest a value (λ answer e. reset a answer))
+    (λ fits none. by_record (λ s. beside_zone s.after ≡ beside_zone m) m newest name value (λ asked e. given) (λ place answer e e2. written place answer))
+  where
+    given : beside_zone (z_alloc m 40).after ≡ beside_zone m
+    given = beside-z_alloc m 40
+
+    reset : (a : Alias) (answer : Result ℕ ℕ) → beside_zone (value_reset newest a.record_place (replace_value m a.value_place value).after answer).after ≡ beside_zone m
+    reset a (Ok v) = beside-with_zone_bytes _ _ _ ∙ beside-replace_value m value a.value_place
+    reset a (Err asked) = beside-replace_value m value a.value_place
+
+    written : (place : ℕ) (answer : Result ℕ ℕ) → beside_zone (record_written newest name place (put_value (z_alloc m 40).after value).after answer).after ≡ beside_zone m
+    written place (Ok v) = beside-with_zone_bytes _ _ _ ∙ beside-put_value _ value ∙ given
+    written place (Err asked) = beside-z_free _ place ∙ beside-put_value _ value ∙ given
+
+beside-given_back : (m : Memory) (answer : Result ℕ ℕ) → beside_zone (given_back m answer) ≡ beside_zone m
+beside-given_back m (Ok place) = beside-z_free m place
+beside-given_back m (Err asked) = refl
+
+-- whatever the call tells.
+pub beside_told : (m n : Memory) (before now : Option ℕ) (name value : List ℕ) (frugal : Bool) (told : Option (Result (Unit {0}) AliasRefusal)) → GivesSet (set_alias m before name value) frugal m before told n now → beside_zone n ≡ beside_zone m
+beside_told m n before now name value frugal (Some answer) set = ap (λ (k : Memory). beside_zone k) set.after ∙ beside-set_alias m before name value
+beside_told m n before now name value frugal None out = elim out.after [
+  | inl same ↦ ap (λ (k : Memory). beside_zone k) same
+  | inr back ↦ ap (λ (k : Memory). beside_zone k) back ∙ beside-given_back (z_alloc m 40).after (z_alloc m 40).answer ∙ beside-z_alloc m 40
+]
 
 -- `LongName` comes exactly where the name has more than 31 bytes.
 pub set_alias-long : (m : Memory) (newest : Option ℕ) (name value : List ℕ) → 31 < length name → (set_alias m newest name value).answer ≡ Err LongName
@@ -255,4 +288,4 @@ long_told m n before now name value frugal result set long =
     long_only m before name value (subst (λ (r : Result (Unit {0}) AliasError). GivesSet (set_alias m before name value) frugal m before (set_told r) n now) long set).answer
 
 -- for callers: `#[tactic(auto, using(cmd_buffer::proofs::AliasSetLaws::alias_laws))]`
-pub ruleset alias_laws = (holds_none, aliases_none, stays_set_alias, Laid-set_alias, set_alias-long, texts-set_alias, texts-given_back, names-with_value, set_alias-full, value-texts, reads_told)
+pub ruleset alias_laws = (holds_none, aliases_none, stays_set_alias, Laid-set_alias, beside-set_alias, beside_told, set_alias-long, texts-set_alias, texts-given_back, names-with_value, set_alias-full, value-texts, reads_told)

@@ -5,6 +5,7 @@ ghost use Rattle.std.specs.Option.{option_map};
 ghost use Rattle.mem_model.specs.Zone.{zone_bytes};
 ghost use Rattle.mem_model.specs.Hunk.{over};
 ghost use Rattle.mem_model.specs.Laid.{Laid, IsText};
+ghost use Rattle.mem_model.specs.Keeps.{beside_zone};
 ghost use Rattle.zone_values.specs.Held.{OthersStay};
 ghost use Rattle.cmd_buffer.specs.Aliases.{place_of, number_of, spelled, aliases_of, alias_places, HoldsAliases, added, set_alias};
 ghost use Rattle.cmd_buffer.specs.Aliases.{alias_texts, alias_value, older_than, IsReadBack};
@@ -106,6 +107,7 @@ impl Aliases {
 
         ensures holds { HoldsAliases (M.state store.new) self.new }
         ensures others { OthersStay (M.state store.old) (M.state store.new) (alias_places (aliases_of (M.state store.old) self.old)) (alias_places (aliases_of (M.state store.new) self.new)) }
+        ensures beside { beside_zone (M.state store.new) ≡ beside_zone (M.state store.old) }
         ensures laid { Laid (M.state store.old) → Laid (M.state store.new) }
     {
         if LONGEST_NAME < name.len() {

@@ -3,7 +3,7 @@ use Rattle.mem_model.specs.Zone.{with_zone_bytes}
 use Rattle.mem_model.proofs.ZoneLaying.{Laid-with_zone_bytes}
 use Rattle.std.specs.Prelude.{OnOk, OnErr}
 use Rattle.cmd_buffer.specs.Aliases.{changed, alias_texts, IsReadBack}
-use Rattle.cmd_buffer.proofs.AliasSetLaws.{reads_told, long_told}
+use Rattle.cmd_buffer.proofs.AliasSetLaws.{reads_told, long_told, beside_told}
 use Rattle.cmd_buffer.specs.AliasCalls.{IsSet}
 use Rattle.cmd_buffer.specs.AliasRecords.{alias_in}
 use Rattle.cmd_buffer.proofs.AliasAdding.{Stays}
@@ -142,3 +142,15 @@ returns-in-None-clause-long_name g c = (
   long_told _ _ c.args.self.now _ c.args.name.now c.args.value.now _ c.add.result (returns-in-None-clause-gives g c),
   λ long. absurd (omega arith),
 )
+
+-- Nothing beside the zone changed.
+pub returns-in_err-new-in-Some-clause-beside : goal.returns-in_err-new-in-Some-clause-beside
+returns-in_err-new-in-Some-clause-beside g c =
+    beside_told _ _ c.args.self.now c.args.self.now c.args.name.now c.args.value.now _ _ (returns-in_err-new-in-Some-clause-gives g c)
+
+pub returns-in_ok-new-in-Some-clause-beside : goal.returns-in_ok-new-in-Some-clause-beside
+returns-in_ok-new-in-Some-clause-beside g c =
+    beside_told _ _ c.args.self.now c.args.self.now c.args.name.now c.args.value.now g.M.Store.frugal (Some (Ok tt)) (returns-in_ok-new-in-Some-clause-gives g c)
+
+pub returns-in-None-clause-beside : goal.returns-in-None-clause-beside
+returns-in-None-clause-beside g c = beside_told _ _ c.args.self.now _ c.args.name.now c.args.value.now _ _ (returns-in-None-clause-gives g c)
