@@ -6,6 +6,7 @@ use Rattle.mem_model.proofs.Laying.{Laid-with_low_bytes}
 use Rattle.search_paths.specs.Mounts.{find_told}
 use Rattle.search_paths.specs.Path.{told_mounts}
 use Rattle.file_load.proofs.Asking.{asks_refused, asks_unread, asks_read}
+use Rattle.file_load.proofs.Keeping.{kept_low, kept_low_written, kept_same}
 use Rattle.file_load.proofs.Loading.{zero_behind, room_in}
 use Rattle.file_load.proofs.Lows.{fresh, are_zeros, zone_given, zone_written, leaves_early, leaves_refused, leaves_made, leaves_unread, early_low, refused_low, unread_low, loaded_low}
 use Rattle.file_load.proofs.low.load_low.Goals as goal
@@ -111,3 +112,15 @@ pub returns-clause-asked : goal.returns-clause-asked
 returns-clause-asked g c =
     asks_read g.F.Folder.folder_calls c.args.name.now _ _ c.args.paths.now.folders _ c.in_ok-file.file c.in_ok-file.ensures.first c.in_ok-file.ensures.asked _ c.in_ok-file.ensures.sized.mount
     (rw c.in_ok-file.ensures.same.rows at c.in_ok-read_whole.ensures.asked)
+
+pub returns-in_err-file-clause-keeps : goal.returns-in_err-file-clause-keeps
+returns-in_err-file-clause-keeps g c = λ laid. kept_same _
+
+pub returns-in_err-place-clause-keeps : goal.returns-in_err-place-clause-keeps
+returns-in_err-place-clause-keeps g c = λ laid. kept_low _ _ (c.in_ok-file.file.length + 1) c.base.result.now g.M.Store.frugal (room_answer c.low_alloc.result) laid c.base.ensures.text c.low_alloc.ensures.gives
+
+pub returns-in_err-read_whole-clause-keeps : goal.returns-in_err-read_whole-clause-keeps
+returns-in_err-read_whole-clause-keeps g c = λ laid. kept_low_written _ _ _ _ _ _ _ laid c.base.ensures.text c.in_ok-place.ensures.gives (g.met.M.Store.low_writes _ _ _)
+
+pub returns-clause-keeps : goal.returns-clause-keeps
+returns-clause-keeps g c = λ laid. kept_low_written _ _ _ _ _ _ _ laid c.base.ensures.text c.in_ok-place.ensures.gives (g.met.M.Store.low_writes _ _ _)
