@@ -1,0 +1,8 @@
+pub mod Rows
+pub mod Naming
+pub mod Entering
+pub mod Kept
+pub mod Caching
+pub mod Loading
+pub mod Acquiring
+pub mod Holding

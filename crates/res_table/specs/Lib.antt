@@ -1,0 +1,10 @@
+pub mod Tables
+pub mod Resources
+pub mod Refusals
+pub mod Faults
+pub mod Images
+pub mod Cached
+pub mod Loads
+pub mod Acquire
+pub mod Held
+pub mod Kept

@@ -1,0 +1,18 @@
+-- How a refusal is told of a resource.
+use Rattle.file_load.specs.declared.errors.LoadError.{LoadError}
+use Rattle.file_load.specs.declared.errors.LoadError.TheVariants as load
+use Rattle.mem_model.specs.declared.answers.RoomError.{RoomError}
+use Rattle.mem_model.specs.declared.answers.RoomError.TheVariants as room
+use Rattle.res_table.specs.declared.answers.AcquireError.{AcquireError}
+use Rattle.res_table.specs.declared.answers.AcquireError.TheVariants as error
+
+abbrev pub load_refused : LoadError → AcquireError
+load_refused load.NotFound = error.NotFound
+load_refused (load.BeyondPack end whole) = error.BeyondPack end whole
+load_refused (load.NoRoom asked room) = error.NoRoom asked room
+load_refused (load.FolderFault folder stage) = error.FolderFault folder
+load_refused load.OutOfMemory = error.OutOfMemory
+
+abbrev pub room_refused : RoomError → AcquireError
+room_refused (room.NoRoom asked left) = error.NoRoom asked left
+room_refused room.OutOfMemory = error.OutOfMemory
