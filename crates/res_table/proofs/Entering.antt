@@ -52,7 +52,7 @@ slot_for-cons name row rows = ap (λ (o : Option ℕ). unwrap_or o (length (row 
   by true = refl
   by false = shifted (slot_of name rows)
 
-entered-cons : (name : List ℕ) (loaded : Loaded) (row : Row) (rows : List Row)
+pub entered-cons : (name : List ℕ) (loaded : Loaded) (row : Row) (rows : List Row)
     → entered (row ∷ rows) name loaded ≡ cond (bytes_eq name row.0) ((row.0, loaded) ∷ rows) (row ∷ entered rows name loaded)
 entered-cons name loaded row rows = ap (entered_at (row ∷ rows) name loaded) (slot-cons name row rows) ∙ by (bytes_eq name row.0) where
   shifted : (o : Option ℕ) → entered_at (row ∷ rows) name loaded (option_map suc o) ≡ row ∷ entered_at rows name loaded o

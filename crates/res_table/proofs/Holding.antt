@@ -1,24 +1,24 @@
 -- What is held of the resources passes from a memory to another.
-use Rattle.std.proofs.Common.{◌≡◌, ℕ, zero, suc, ◌≤◌, List, Bool, true, false, ◌≢◌, [], ◌∷◌, length, inl, inr, Option, Some, None, refl, sym, ap, ◌∙◌, arith}
-use Rattle.std.specs.Prelude.{Contains, IsSome, IfSome, slice_get, option_map, option_and_then, bytes_eq}
+use Rattle.std.proofs.Common.{◌≡◌, ℕ, zero, suc, ◌≤◌, List, Bool, true, false, cond, ◌≢◌, [], ◌∷◌, ◌++◌, length, take, inl, inr, Option, Some, None, refl, sym, ap, ◌∙◌, arith}
+use Rattle.std.specs.Prelude.{All, Contains, IsSome, IfSome, slice_get, option_map, option_and_then, bytes_eq}
 use Rattle.std.proofs.lemmas.Bool.Decides.{eqb_tells}
-use Rattle.std.proofs.lemmas.List.Elements.{Contains-append_left, Contains-append_right}
+use Rattle.std.proofs.lemmas.List.Elements.{All-cons, All-contains, All-head, All-nil, All-same, All-tail, Contains-append_left, Contains-append_right}
 use Rattle.mem_model.specs.declared.answers.Place.{Place}
 use Rattle.mem_model.specs.Cache.{find_block, peek_bytes}
 use Rattle.mem_model.specs.Hunk.{low_bytes}
 use Rattle.mem_model.specs.Blocks.{CacheBlock}
-use Rattle.mem_model.specs.Keeps.{Keeps, KeepsAll, held, unplaced}
+use Rattle.mem_model.specs.Keeps.{AreLow, Keeps, KeepsAll, held, unplaced}
 use Rattle.mem_model.specs.Memory.{Cache, Memory}
-use Rattle.mem_model.proofs.Keeping.{is_excepted, none_excepted, not_excepted, peek_bytes-Keeps}
+use Rattle.mem_model.proofs.Keeping.{AreLow-Keeps, is_excepted, none_excepted, not_excepted, peek_bytes-Keeps}
 use Rattle.search_paths.specs.Mounts.{Mount}
 use Rattle.res_table.specs.declared.kinds.Table.{Table}
 use Rattle.res_table.specs.declared.kinds.Table.TheVariants.{Sounds}
 use Rattle.res_table.specs.declared.slots.Loaded.{Loaded}
 use Rattle.res_table.specs.Held.{AreHeld, AreThere, IsImageOf, IsSlotUser, bytes_at, low_of, lows_in, lows_of}
-use Rattle.res_table.specs.Images.{file_of}
-use Rattle.res_table.specs.Resources.{Resources, rows_in, with_rows}
+use Rattle.res_table.specs.Images.{IsImage, file_of}
+use Rattle.res_table.specs.Resources.{Resources, no_resources, rows_in, with_rows}
 use Rattle.res_table.specs.Tables.{entered, found_in, slot_for, slot_of, user_of}
-use Rattle.res_table.proofs.Entering.{Found, some, found_within, found-other, found-own, same_name, slot_found, slots_apart}
+use Rattle.res_table.proofs.Entering.{Found, some, entered-cons, found_within, found-other, found-own, same_name, slot_found, slots_apart}
 
 -- the low place of a row is one of those of its table
 low_row : (rows : List (List ℕ × Loaded)) (slot : ℕ) (row : List ℕ × Loaded) (place : Place) → slice_get rows slot ≡ Some row
@@ -52,13 +52,20 @@ pub low_seen : (t : Resources) (m : Memory) (table : Table) (name : List ℕ) (s
 low_seen t m table name slot loaded is found = by loaded.low refl where
   by : (low : Option Place) → loaded.low ≡ low → IfSome low (λ place. IsSome (low_bytes m place.0))
   by None same = tt
-  by (Some place) same = is.1.low table name slot loaded place found same
+  by (Some place) same = All-contains (λ (p : ℕ). IsSome (low_bytes m p)) (lows_of t) place.0 is.1.low (low_found t table name slot loaded place found same)
 
 pub image_fits : (t : Resources) (m : Memory) (table : Table) (name : List ℕ) (slot : ℕ) (loaded : Loaded) (bytes : List ℕ) → AreThere t m
     → found_in name (rows_in t table) ≡ Some (slot, loaded) → bytes_at m (user_of table slot) loaded.low ≡ Some bytes → loaded.size ≤ length bytes
 image_fits t m table name slot loaded bytes is found there =
     let image = is.1.images table name slot loaded found in
     (rw there at image).fits
+
+-- the bytes of a resource that is seen are an image
+pub image_seen : (t : Resources) (m : Memory) (table : Table) (name : List ℕ) (slot : ℕ) (loaded : Loaded) (bytes : List ℕ) → AreThere t m
+    → found_in name (rows_in t table) ≡ Some (slot, loaded) → bytes_at m (user_of table slot) loaded.low ≡ Some bytes → IsImage loaded.kind (take loaded.size bytes)
+image_seen t m table name slot loaded bytes is found there =
+    let made = rw there at (is.1.images table name slot loaded found) in
+    record { speed = t.speed; source = made.source; image = made.image }
 
 -- what the block of a resource shows after was there before
 module _ {lows except : List ℕ} {m n : Memory} (P : List ℕ → Type 0) (kept : Keeps lows except m n) where
@@ -79,33 +86,48 @@ module _ {lows except : List ℕ} {m n : Memory} (P : List ℕ → Type 0) (kept
       let there = in_table place refl in
       in_low place.0 (low_bytes m place.0) there.0 refl there.1 was
 
-low_stays : {lows except : List ℕ} {m n : Memory} (place : ℕ) (before : Option (List ℕ)) → Keeps lows except m n → Contains lows place → low_bytes m place ≡ before
-    → IsSome before → IsSome (low_bytes n place)
-low_stays place None kept there is some = absurd (cc)
-low_stays place (Some bytes) kept there is some = rw (kept.low place bytes there is) refl
-
 -- what is held of a row stays so, where its user isn't excepted
 module _ {mounts : List (Option Mount)} {except : List ℕ} (t : Resources) (m n : Memory) (is : AreHeld mounts t m) (kept : Keeps (lows_of t) except m n)
     (table : Table) (name : List ℕ) (slot : ℕ) (loaded : Loaded) (found : found_in name (rows_in t table) ≡ Some (slot, loaded)) where
-  row_low : (place : Place) → loaded.low ≡ Some place → IsSome (low_bytes n place.0)
-  row_low place low =
-      low_stays place.0 (low_bytes m place.0) kept (low_found t table name slot loaded place found low) refl (is.low table name slot loaded place found low)
-
   row_image : ¬ Contains except (user_of table slot) → IfSome (bytes_at n (user_of table slot) loaded.low) (IsImageOf t.speed mounts table (file_of table name) loaded)
   row_image other = still_there _ kept (user_of table slot) loaded.low other
-      (λ place low. (low_found t table name slot loaded place found low, is.low table name slot loaded place found low)) (is.images table name slot loaded found)
+      (λ place low.
+      let in_table = low_found t table name slot loaded place found low in
+      (in_table, All-contains (λ (p : ℕ). IsSome (low_bytes m p)) (lows_of t) place.0 is.low in_table))
+      (is.images table name slot loaded found)
 
 -- For callers: what is held stays so over a call that keeps the blocks of the table.
 pub AreHeld-Keeps : (mounts : List (Option Mount)) (t : Resources) (m n : Memory) → AreHeld mounts t m → Keeps (lows_of t) [] m n → AreHeld mounts t n
 AreHeld-Keeps mounts t m n is kept = record {
   users = rw kept.count is.users;
   cached = λ user b has. is.cached user b (kept.users user b (none_excepted user) has);
-  low = λ table name slot loaded place found low. row_low t m n is kept table name slot loaded found place low;
+  low = AreLow-Keeps (lows_of t) [] m n kept is.low;
   images = λ table name slot loaded found. row_image t m n is kept table name slot loaded found (none_excepted (user_of table slot));
 }
 
 pub held_kept : (mounts : List (Option Mount)) (t : Resources) (m n : Memory) → AreHeld mounts t m → KeepsAll [] m n → AreHeld mounts t n
 held_kept mounts t m n is kept = AreHeld-Keeps mounts t m n is (kept (lows_of t))
+
+-- The low places of a table in which a name was entered are those that it had, and the name's own.
+own_lows : (P : ℕ → Type 0) (low : Option Place) (rest : List ℕ) → IfSome low (λ place. P place.0) → All P rest → All P (low_of low ++ rest)
+own_lows P None rest own all = all
+own_lows P (Some place) rest own all = All-cons P place.0 rest own all
+
+lows_parts : (P : ℕ → Type 0) (low : Option Place) (rest : List ℕ) → All P (low_of low ++ rest) → IfSome low (λ place. P place.0) × All P rest
+lows_parts P None rest all = (tt, all)
+lows_parts P (Some place) rest all = (All-head P place.0 rest all, All-tail P place.0 rest all)
+
+lows_either : (P : ℕ → Type 0) (row : List ℕ × Loaded) (rows later : List (List ℕ × Loaded)) (loaded : Loaded) (same : Bool) → IfSome loaded.low (λ place. P place.0)
+    → All P (lows_in (row ∷ rows)) → All P (lows_in later) → All P (lows_in (cond same ((row.0, loaded) ∷ rows) (row ∷ later)))
+lows_either P row rows later loaded true own all entered = own_lows P loaded.low (lows_in rows) own (lows_parts P row.1.low (lows_in rows) all).1
+lows_either P row rows later loaded false own all entered = own_lows P row.1.low (lows_in later) (lows_parts P row.1.low (lows_in rows) all).0 entered
+
+lows-entered : (P : ℕ → Type 0) (rows : List (List ℕ × Loaded)) (name : List ℕ) (loaded : Loaded) → IfSome loaded.low (λ place. P place.0) → All P (lows_in rows)
+    → All P (lows_in (entered rows name loaded))
+lows-entered P [] name loaded own all = own_lows P loaded.low [] own all
+lows-entered P (row ∷ rows) name loaded own all =
+    let later = lows-entered P rows name loaded own (lows_parts P row.1.low (lows_in rows) all).1 in
+    All-same P _ _ (ap lows_in (entered-cons name loaded row rows)) (lows_either P row rows (entered rows name loaded) loaded (bytes_eq name row.0) own all later)
 
 -- A resource was loaded for a name, into a block of the name's user.
 module _ (mounts : List (Option Mount)) (t : Resources) (m n : Memory) (name : List ℕ) (loaded : Loaded) (is : AreHeld mounts t m)
@@ -150,13 +172,8 @@ module _ (mounts : List (Option Mount)) (t : Resources) (m n : Memory) (name : L
         old_user user was.table was.name was.slot was.loaded was.found was.cached was.is off.1)
   ]
 
-  loaded_low : (table : Table) (other : List ℕ) (slot : ℕ) (row : Loaded) (place : Place) → found_in other (rows_in after table) ≡ Some (slot, row)
-      → row.low ≡ Some place → IsSome (low_bytes n place.0)
-  loaded_low Sounds other slot row place found low =
-      row_case other slot row found (λ same at new. absurd (none_low (sym low ∙ ap (λ (l : Loaded). l.low) new ∙ cached)))
-      (λ off old. row_low t m n is (kept (lows_of t)) Sounds other slot row old place low) where
-        none_low : Some place ≡ None → ⊥
-        none_low e = absurd (cc)
+  loaded_low : AreLow n (lows_of after)
+  loaded_low = lows-entered (λ (p : ℕ). IsSome (low_bytes n p)) t.sounds name loaded (rw cached tt) (AreLow-Keeps (lows_of t) (own ∷ []) m n (kept (lows_of t)) is.low)
 
   at_none : (low : Option Place) → low ≡ None → IfSome (peek_bytes n.cache own) (IsImageOf t.speed mounts Sounds (file_of Sounds name) loaded)
       → IfSome (bytes_at n own low) (IsImageOf t.speed mounts Sounds (file_of Sounds name) loaded)
@@ -179,27 +196,28 @@ pub held_loaded : (mounts : List (Option Mount)) (t : Resources) (m n : Memory) 
 held_loaded mounts t m n Sounds name loaded is kept cached built = held_sound mounts t m n name loaded is kept cached built
 
 -- New tables are held over a cache with no blocks.
-no_found : (t : Resources) (table : Table) (name : List ℕ) (slot : ℕ) (loaded : Loaded) → t.sounds ≡ [] → found_in name (rows_in t table) ≡ Some (slot, loaded) → ⊥
-no_found t Sounds name slot loaded none found =
-    let within = found_within t.sounds name slot loaded found in
-    let empty : length t.sounds ≡ 0 = ap length none in
-    omega (arith, within, empty)
+no_found : (speed : ℕ) (table : Table) (name : List ℕ) (slot : ℕ) (loaded : Loaded) → found_in name (rows_in (no_resources speed) table) ≡ Some (slot, loaded) → ⊥
+no_found speed Sounds name slot loaded found = (let within = found_within [] name slot loaded found in omega (arith, within))
 
 no_held : (c : Cache) (user : ℕ) (b : CacheBlock) → c.blocks ≡ [] → held c user ≡ Some b → ⊥
 unfolding held
 no_held c user b none has = (let found : option_map unplaced (find_block user []) ≡ Some b = ap (λ bs. option_map unplaced (find_block user bs)) (sym none) ∙ has in absurd (cc))
 
-pub AreHeld-new : (mounts : List (Option Mount)) (t : Resources) (m : Memory) → t.sounds ≡ [] → m.cache.blocks ≡ [] → 768 ≤ m.users → AreHeld mounts t m
-AreHeld-new mounts t m none blocks users = record {
+pub AreHeld-new : (mounts : List (Option Mount)) (speed : ℕ) (m : Memory) → m.cache.blocks ≡ [] → 768 ≤ m.users → AreHeld mounts (no_resources speed) m
+AreHeld-new mounts speed m blocks users = record {
   users = users;
   cached = λ user b has. absurd (no_held m.cache user b blocks has);
-  low = λ table name slot loaded place found low. absurd (no_found t table name slot loaded none found);
-  images = λ table name slot loaded found. absurd (no_found t table name slot loaded none found);
+  low = All-nil (λ (p : ℕ). IsSome (low_bytes m p));
+  images = λ table name slot loaded found. absurd (no_found speed table name slot loaded found);
 }
+
+-- Each low place of a table is that of a low block.
+pub AreHeld-lows : (mounts : List (Option Mount)) (t : Resources) (m : Memory) → AreHeld mounts t m → AreLow m (lows_of t)
+AreHeld-lows mounts t m is = is.low
 
 -- What is held is there.
 pub AreHeld-there : (mounts : List (Option Mount)) (t : Resources) (m : Memory) → AreHeld mounts t m → AreThere t m
 AreHeld-there mounts t m is = (mounts, is)
 
 -- `#[tactic(auto, using(res_table::proofs::Holding::holding_laws))]`
-pub ruleset holding_laws = (AreHeld-new, AreHeld-Keeps, AreHeld-there)
+pub ruleset holding_laws = (AreHeld-new, AreHeld-Keeps, AreHeld-there, AreHeld-lows)

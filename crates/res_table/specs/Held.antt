@@ -1,11 +1,11 @@
 -- What holds of the resources of a game between calls.
 use Rattle.std.specs.Prelude.{ℕ, ◌≡◌, ◌^◌, ◌≤◌, List, [], ◌∷◌, ◌++◌, take, length, Option, Some, None, option_map}
-use Rattle.std.specs.Prelude.{option_and_then, IfSome, IsSome, Ok}
+use Rattle.std.specs.Prelude.{option_and_then, IfSome, Ok}
 use Rattle.mem_model.specs.declared.answers.Place.{Place}
 use Rattle.mem_model.specs.Blocks.{CacheBlock}
 use Rattle.mem_model.specs.Cache.{peek_bytes}
 use Rattle.mem_model.specs.Hunk.{low_bytes}
-use Rattle.mem_model.specs.Keeps.{held}
+use Rattle.mem_model.specs.Keeps.{AreLow, held}
 use Rattle.mem_model.specs.Memory.{Memory}
 use Rattle.search_paths.specs.Mounts.{Mount, find_told}
 use Rattle.file_load.specs.Loads.{sought}
@@ -58,8 +58,7 @@ pub record IsImageOf (speed : ℕ) (mounts : List (Option Mount)) (table : Table
 pub record AreHeld (mounts : List (Option Mount)) (t : Resources) (m : Memory) : Type 0 where
   pub users : 768 ≤ m.users
   pub cached : (user : ℕ) (b : CacheBlock) → held m.cache user ≡ Some b → IsSlotUser t user
-  pub low : (table : Table) (name : List ℕ) (slot : ℕ) (loaded : Loaded) (place : Place)
-      → found_in name (rows_in t table) ≡ Some (slot, loaded) → loaded.low ≡ Some place → IsSome (low_bytes m place.0)
+  pub low : AreLow m (lows_of t)
   pub images : (table : Table) (name : List ℕ) (slot : ℕ) (loaded : Loaded)
       → found_in name (rows_in t table) ≡ Some (slot, loaded)
       → IfSome (bytes_at m (user_of table slot) loaded.low) (IsImageOf t.speed mounts table (file_of table name) loaded)

@@ -1,5 +1,5 @@
 -- The file of a resource, and its image.
-use Rattle.std.specs.Prelude.{ℕ, List, ◌++◌, codes, Result, Ok, Err, IsTrue}
+use Rattle.std.specs.Prelude.{ℕ, ◌≡◌, List, ◌++◌, codes, Result, Ok, Err, IsTrue}
 use Rattle.base_fields.specs.Names.{is_game_name}
 use Rattle.wav_load.specs.declared.fault.WavFault.{WavFault}
 use Rattle.wav_load.specs.Images.{image_of as sound_of}
@@ -29,3 +29,9 @@ sound_image (Err wrong) = Err (fault.Sound wrong)
 -- the image that bytes have as a kind, or their first fault, where sounds are played at this speed
 abbrev pub image_of : ℕ → Kind → List ℕ → Result (List ℕ) Fault
 image_of speed kind.Sound bytes = sound_image (sound_of speed bytes)
+
+-- the bytes are an image of this kind, of some source at some speed
+pub record IsImage (kind : Kind) (bytes : List ℕ) : Type 0 where
+  pub speed : ℕ
+  pub source : List ℕ
+  pub image : image_of speed kind source ≡ Ok bytes

@@ -1,5 +1,5 @@
 -- The tables of resources of a game.
-use Rattle.std.specs.Prelude.{ℕ, List}
+use Rattle.std.specs.Prelude.{ℕ, List, []}
 use Rattle.res_table.specs.declared.kinds.Table.{Table}
 use Rattle.res_table.specs.declared.kinds.Table.TheVariants.{Sounds}
 use Rattle.res_table.specs.declared.slots.Loaded.{Loaded}
@@ -9,6 +9,10 @@ use Rattle.res_table.specs.declared.slots.Loaded.{Loaded}
 pub record Resources : Type 0 where
   pub speed : ℕ
   pub sounds : List (List ℕ × Loaded)
+
+-- no names in any table
+abbrev pub no_resources : (speed : ℕ) → Resources
+no_resources speed = record { speed = speed; sounds = [] }
 
 abbrev pub rows_in : Resources → Table → List (List ℕ × Loaded)
 rows_in t Sounds = t.sounds

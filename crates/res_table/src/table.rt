@@ -9,8 +9,8 @@ ghost use Rattle.file_load.specs.Loads.{load_temp};
 ghost use Rattle.res_table.specs.Acquire.{acquire, answered_before, before_of, table_after, Acquires};
 ghost use Rattle.res_table.specs.Faults.{IsAcquireFault};
 ghost use Rattle.res_table.specs.Held.{AreHeld, AreThere, seen};
-ghost use Rattle.res_table.specs.Images.{HasFileName, file_of};
-ghost use Rattle.res_table.specs.Resources.{rows_in, with_rows};
+ghost use Rattle.res_table.specs.Images.{HasFileName, IsImage, file_of};
+ghost use Rattle.res_table.specs.Resources.{no_resources, rows_in, with_rows};
 ghost use Rattle.res_table.specs.Tables.{entered, most_of, slot_for, user_of};
 
 use crate::answers::{AcquireError, Res};
@@ -48,7 +48,7 @@ impl ResTable {
     /// No resources, with room for the names of each table, so that no later call takes memory for them. Sounds are made for
     /// `speed` samples a second.
     pub fn create(alloc: Global, speed: u32) -> Result<ResTable, AllocError>
-        ensures { IfOk result (λ table. table ≡ record { speed = speed; sounds = [] }) }
+        ensures { IfOk result (λ table. table ≡ no_resources speed) }
     {
         Ok(ResTable {
             speed,
@@ -170,8 +170,9 @@ impl ResTable {
         name: &GameName,
     ) -> Option<(Kind, &'a [u8])>
         requires { AreThere self.now (M.state store.now) }
-        ensures { MatchOption result (seen self.now (M.state store.now) table name.now ≡ None)
+        ensures seen { MatchOption result (seen self.now (M.state store.now) table name.now ≡ None)
             (λ image. seen self.now (M.state store.now) table name.now ≡ Some (image.0, image.1.now)) }
+        ensures image { IfSome result (λ image. IsImage image.0 image.1.now) }
     {
         let (slot, loaded) = self.slots(table).find(name)?;
         let bytes = bytes_at(store, table.user(slot), loaded.low)?;

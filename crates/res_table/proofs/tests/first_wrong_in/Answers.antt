@@ -1,10 +1,9 @@
 use Rattle.std.proofs.Common.{ap, arith}
 use Rattle.mem_model.specs.Memory.{Memory}
-use Rattle.res_table.specs.Resources.{Resources}
 use Rattle.res_table.proofs.Holding.{AreHeld-new}
 use Rattle.res_table.proofs.tests.first_wrong_in.Goals as goal
 
 pub first_wrong-requires : goal.first_wrong-requires
 first_wrong-requires c =
     let users = ap (λ (m : Memory). m.users) c.in_ok-store.ensures.ok in
-    AreHeld-new _ _ _ (ap (λ (t : Resources). t.sounds) c.in_ok-table.ensures) (ap (λ (m : Memory). m.cache.blocks) c.in_ok-store.ensures.ok) (omega (arith, users))
+    rw c.in_ok-table.ensures (AreHeld-new _ 11_025 _ (ap (λ (m : Memory). m.cache.blocks) c.in_ok-store.ensures.ok) (omega (arith, users)))
