@@ -3,6 +3,7 @@ pub mod Naming
 pub mod Entering
 pub mod Kept
 pub mod Caching
+pub mod Asking
 pub mod Loading
 pub mod Acquiring
 pub mod Holding

@@ -2,6 +2,7 @@ pub mod Tables
 pub mod Resources
 pub mod Refusals
 pub mod Faults
+pub mod Calls
 pub mod Images
 pub mod Cached
 pub mod Loads

@@ -7,8 +7,9 @@ ghost use Rattle.mem_model.specs.Images.{HasBytes, front_of};
 ghost use Rattle.mem_model.specs.Keeps.{KeepsAll};
 ghost use Rattle.mem_model.specs.Laid.{Laid};
 ghost use Rattle.search_paths.specs.Counts.{NoneFalls};
-ghost use Rattle.search_paths.specs.Path.{told_mounts, counts_of, SamePath};
+ghost use Rattle.search_paths.specs.Path.{rows_of, told_mounts, counts_of, SamePath};
 ghost use Rattle.file_load.specs.Loads.{load_temp};
+ghost use Rattle.res_table.specs.Calls.{AsksOnce};
 ghost use Rattle.res_table.specs.Images.{image_of, kind_of};
 ghost use Rattle.res_table.specs.Loads.{Makes, made_of, sized};
 ghost use Rattle.res_table.specs.Acquire.{loaded_of};
@@ -71,6 +72,8 @@ pub(crate) fn load<M: Store, F: Folder>(
 
     // The path.
     ensures same { SamePath F.files paths.old paths.new }
+    ensures asked { AsksOnce F.folder_calls file.now (told_mounts F.files paths.old) (rows_of paths.old)
+        paths.old.folders paths.new.folders result }
     ensures faults { NoneFalls (counts_of F.folder_faults paths.old) (counts_of F.folder_faults paths.new) }
     ensures calls { NoneFalls (counts_of F.folder_calls paths.old) (counts_of F.folder_calls paths.new) }
     ensures fault { IfErr result

@@ -4,9 +4,10 @@ ghost use Rattle.std.specs.Prelude.{IfOk, IfErr, IfSome, IsErrOf, MatchOption};
 ghost use Rattle.mem_model.specs.Keeps.{KeepsAll};
 ghost use Rattle.mem_model.specs.Laid.{Laid};
 ghost use Rattle.search_paths.specs.Counts.{NoneFalls};
-ghost use Rattle.search_paths.specs.Path.{told_mounts, counts_of, SamePath};
+ghost use Rattle.search_paths.specs.Path.{rows_of, told_mounts, counts_of, SamePath};
 ghost use Rattle.file_load.specs.Loads.{load_temp};
 ghost use Rattle.res_table.specs.Acquire.{acquire, answered_before, before_of, table_after, Acquires};
+ghost use Rattle.res_table.specs.Calls.{AsksOnce};
 ghost use Rattle.res_table.specs.Faults.{IsAcquireFault};
 ghost use Rattle.res_table.specs.Held.{AreHeld, AreThere, seen};
 ghost use Rattle.res_table.specs.Images.{HasFileName, IsImage, file_of};
@@ -142,6 +143,9 @@ impl ResTable {
 
         // The path.
         ensures same { SamePath F.files paths.old paths.new }
+        ensures asked { answered_before self.old (M.state store.old) table name.now ≡ None
+            → AsksOnce F.folder_calls (file_of table name.now) (told_mounts F.files paths.old) (rows_of paths.old)
+            paths.old.folders paths.new.folders result }
         ensures faults { NoneFalls (counts_of F.folder_faults paths.old) (counts_of F.folder_faults paths.new) }
         ensures calls { NoneFalls (counts_of F.folder_calls paths.old) (counts_of F.folder_calls paths.new) }
         ensures fault { IfErr result

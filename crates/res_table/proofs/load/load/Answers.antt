@@ -2,6 +2,7 @@ use Rattle.std.proofs.Common.{arith, [], ◌∷◌}
 use Rattle.std.proofs.lemmas.Result.{err_from_is_err_and}
 use Rattle.base_fields.specs.Names.{base_of}
 use Rattle.search_paths.specs.Path.{told_mounts}
+use Rattle.res_table.proofs.Asking.{asked_bad, asked_failed, asked_made, asked_no_block}
 use Rattle.res_table.proofs.Caching.{size_fits}
 use Rattle.res_table.proofs.Loading.{bad_image, built, failed_load, image_loaded, no_block, still_absent, still_known}
 use Rattle.res_table.proofs.Kept.{kept_but, kept_more}
@@ -62,3 +63,21 @@ returns-clause-built g c =
     image_loaded c.args.speed c.args.table c.args.user c.args.file.now (told_mounts g.F.Folder.files c.args.paths.now) (g.M.Store.state c.args.store.now) (g.M.Store.state c.load_temp.new.store)
     (g.M.Store.state c.build_cached.new.store) c.in_ok-length.length (c.in_ok-builder.builder, c.in_ok-builder.size)
     (c.load_temp.ensures.laid c.requires.laid) c.in_ok-length.ensures.told c.in_ok-builder.ensures c.in_ok-place.ensures.built
+
+pub returns-in_err-length-clause-asked : goal.returns-in_err-length-clause-asked
+returns-in_err-length-clause-asked g c =
+    let p = err_from_is_err_and c.from_residual.result c.from_residual.ensures.1 in
+    rw (p.1, p.2) (asked_failed g.F.Folder.folder_calls c.args.file.now _ _ _ _ c.in_err-length.field-0.0 c.in_err-length.ensures.asked)
+
+pub returns-in_err-builder-clause-asked : goal.returns-in_err-builder-clause-asked
+returns-in_err-builder-clause-asked g c =
+    let p = err_from_is_err_and c.from_residual-in_err-builder.result c.from_residual-in_err-builder.ensures.1 in
+    rw (p.1, p.2) (asked_bad g.F.Folder.folder_calls c.args.file.now _ _ _ _ c.in_ok-length.ensures.asked c.in_err-builder.field-0.0)
+
+pub returns-in_err-place-clause-asked : goal.returns-in_err-place-clause-asked
+returns-in_err-place-clause-asked g c =
+    let p = err_from_is_err_and c.from_residual-in_err-place.result c.from_residual-in_err-place.ensures.1 in
+    rw (p.1, p.2) (asked_no_block g.F.Folder.folder_calls c.args.file.now _ _ _ _ c.in_ok-length.ensures.asked c.in_err-place.field-0.0)
+
+pub returns-clause-asked : goal.returns-clause-asked
+returns-clause-asked g c = asked_made g.F.Folder.folder_calls c.args.file.now _ _ _ _ c.in_ok-length.ensures.asked _

@@ -58,6 +58,20 @@ returns-clause-held g c =
     (kept_more (kept_but _ c.in_ok-res.ensures.keeps) (rw (c.user-user.ensures, c.slot.ensures, c.slots.ensures) at c.in_ok-res-2.ensures.keeps)) refl
     (rw (c.speed.ensures, c.file.ensures, c.user-user.ensures, c.slot.ensures, c.slots.ensures) at c.in_ok-res-2.ensures.built))
 
+pub returns-in_err-res-clause-asked : goal.returns-in_err-res-clause-asked
+returns-in_err-res-clause-asked g c = λ needed. (let before = c.in_err-res.ensures.before in absurd (cc))
+
+pub returns-in-Some-clause-asked : goal.returns-in-Some-clause-asked
+returns-in-Some-clause-asked g c = λ needed. (let before = rw c.in-Some.is at c.in_ok-res.ensures.before in absurd (cc))
+
+pub returns-in_err-res-2-clause-asked : goal.returns-in_err-res-2-clause-asked
+returns-in_err-res-2-clause-asked g c = λ needed.
+    let p = err_from_is_err_and c.from_residual-in_err-res-2.result c.from_residual-in_err-res-2.ensures.1 in
+    rw (p.1, p.2) (rw c.file.ensures at c.in_err-res-2.ensures.asked)
+
+pub returns-clause-asked : goal.returns-clause-asked
+returns-clause-asked g c = λ needed. rw c.file.ensures at c.in_ok-res-2.ensures.asked
+
 pub returns-clause-keeps : goal.returns-clause-keeps
 returns-clause-keeps g c =
     kept_more (kept_but _ c.in_ok-res.ensures.keeps) (rw (c.user-user.ensures, c.slot.ensures, c.slots.ensures) at c.in_ok-res-2.ensures.keeps)
