@@ -1,0 +1,71 @@
+-- A game with two sounds in its table, of which one is in the cache. No mount has a file.
+use Rattle.std.proofs.Common.{◌≡◌, ℕ, List, [], ◌∷◌, false, replicate, Option, Some, None, Ok, Err, codes, refl}
+use Rattle.mem_model.specs.Cache.{peek_bytes}
+use Rattle.mem_model.specs.Memory.{Memory, cache_of, new_memory}
+use Rattle.mem_model.specs.Operations.{check}
+use Rattle.search_paths.specs.Mounts.{folder_mount}
+use Rattle.file_load.specs.Loads.{Loading, load_temp, temp_load}
+use Rattle.res_table.specs.declared.answers.AcquireError.TheVariants as error
+use Rattle.res_table.specs.declared.kinds.Kind.TheVariants.{Sound}
+use Rattle.res_table.specs.declared.kinds.Table.TheVariants.{Sounds}
+use Rattle.res_table.specs.declared.slots.Loaded.{Loaded}
+use Rattle.res_table.specs.Acquire.{acquire, answered_after, answered_before}
+use Rattle.res_table.specs.Held.{seen}
+use Rattle.res_table.specs.Loads.{made_of}
+use Rattle.res_table.specs.Resources.{Resources}
+use Rattle.res_table.specs.Tables.{entered, found_in, slot_for}
+
+abbrev sound : ℕ → Loaded
+sound size = record { kind = Sound; size = size; low = None }
+
+abbrev table : Resources
+table = record { speed = 11_025; sounds = (codes "a.wav", sound 21) ∷ (codes "b.wav", sound 22) ∷ [] }
+
+-- Users 256 and 257 are those of the slots. A block of 64 bytes has 24 for an image, and another user was used since.
+abbrev memory : Memory
+memory = record (new_memory 65536 49152 768 0) {
+  cache = cache_of
+      (record { place = 49168; size = 64; user = 257; name = codes "b"; bytes = replicate 24 7 }
+      ∷ record { place = 49232; size = 64; user = 0; name = []; bytes = replicate 24 8 } ∷ [])
+      (0 ∷ 257 ∷ []);
+}
+
+abbrev nowhere : List ℕ → Option Loading
+nowhere file = load_temp (Some (folder_mount 0 []) ∷ []) memory file
+
+in_the_second_slot : found_in (codes "b.wav") table.sounds ≡ Some (1, sound 22)
+in_the_second_slot = refl
+
+-- A further name gets the next slot, and a name that is there keeps its own.
+slots : (slot_for (codes "c.wav") table.sounds ≡ 2) × (entered table.sounds (codes "a.wav") (sound 30) ≡ (codes "a.wav", sound 30) ∷ (codes "b.wav", sound 22) ∷ [])
+slots = (refl, refl)
+
+-- It is used once, and no file is asked for.
+present : acquire table memory Sounds (codes "b.wav") None ≡ Some (record {
+  answer = Ok (record { kind = Sound; size = 22; place = 49208; loaded = false });
+  table = table;
+  after = record memory { cache = cache_of memory.cache.blocks (257 ∷ 0 ∷ []) };
+})
+unfolding answered_before check
+present = refl
+
+shown : (seen table memory Sounds (codes "b.wav") ≡ Some (Sound, replicate 22 7)) × (seen table memory Sounds (codes "a.wav") ≡ None)
+unfolding peek_bytes
+shown = (refl, refl)
+
+-- A sound that left the cache is in its table still, and its file is needed.
+gone : acquire table memory Sounds (codes "a.wav") (nowhere (codes "sound/a.wav")) ≡ Some (record { answer = Err error.NotFound; table = table; after = memory })
+unfolding answered_before answered_after made_of temp_load
+gone = refl
+
+untold : acquire table memory Sounds (codes "a.wav") None ≡ None
+unfolding answered_before
+untold = refl
+
+abbrev full : Resources
+full = record { speed = 11_025; sounds = replicate 512 (codes "a.wav", sound 21) }
+
+-- whether or not there is a file
+no_further_name : acquire full memory Sounds (codes "c.wav") (nowhere (codes "sound/c.wav")) ≡ Some (record { answer = Err error.TableFull; table = full; after = memory })
+unfolding answered_before
+no_further_name = refl
