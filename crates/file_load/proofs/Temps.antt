@@ -1,14 +1,15 @@
 -- Loading into the temporary block, where the folders of the path tell their files.
-use Rattle.std.proofs.Common.{◌≡◌, ℕ, ◌+◌, List, ◌++◌, Bool, length, drop, option_map, Option, Some, None, IfSome, IfOk, Result, Ok, Err, sym, ap, ◌∙◌}
+use Rattle.std.proofs.Common.{◌≡◌, ℕ, ◌+◌, List, ◌++◌, Bool, length, drop, option_map, Option, Some, None, IfSome, IfOk, Result, Ok, Err, refl, sym, ap, ◌∙◌}
 use Rattle.mem_model.specs.Answer.{Answers, Gives}
 use Rattle.mem_model.specs.Event.{Shortage}
 use Rattle.mem_model.specs.Memory.{Memory}
-use Rattle.mem_model.specs.Hunk.{temp_bytes, with_temp_bytes, without_temp}
+use Rattle.mem_model.specs.Hunk.{temp_bytes, with_temp_bytes, with_temp_bytes_of, without_temp}
+use Rattle.mem_model.specs.Keeps.{beside_high}
 use Rattle.mem_model.specs.Operations.{temp_alloc}
 use Rattle.mem_model.specs.Told.{room_answer}
 use Rattle.mem_model.specs.declared.answers.RoomError.{RoomError}
 use Rattle.mem_model.proofs.Laws.{temp_bytes-new, temp_bytes-written}
-use Rattle.mem_model.proofs.Untouched.{zone-temp_alloc, zone-with_temp_bytes, zone-without_temp}
+use Rattle.mem_model.proofs.CacheLaws.{beside-temp_alloc, beside-without_temp}
 use Rattle.search_paths.specs.declared.answers.FileRef.{FileRef}
 use Rattle.search_paths.specs.Answers.{placed}
 use Rattle.search_paths.specs.Mounts.{FileAt}
@@ -17,7 +18,7 @@ use Rattle.file_load.specs.Loads.{Loading, temp_block, with_temp, temp_load, pad
 use Rattle.file_load.specs.Leaves.{IsMade, IsTempMade, LeavesTemp}
 use Rattle.file_load.specs.Files.{Finds, IsSought, IsUnreadable}
 use Rattle.file_load.specs.Refusals.{refused}
-use Rattle.file_load.proofs.Loading.{zeros, zone_after, left_early, left_refused, made, left_unread, early, refusal, what_is, unread, whole}
+use Rattle.file_load.proofs.Loading.{zeros, left_early, left_refused, made, left_unread, early, refusal, what_is, unread, whole}
 use Rattle.file_load.proofs.Overwriting.{with_temp_bytes-twice}
 
 -- a new block has zeros alone
@@ -27,12 +28,21 @@ fresh m mid size place gives = ap temp_bytes gives.after ∙ temp_bytes-new m (s
 pub are_zeros : (m mid : Memory) (size place : ℕ) (old : List ℕ) → Answers (temp_alloc m (size + 1)) (Ok place) mid → temp_bytes mid ≡ Some old → old ≡ zeros size
 are_zeros m mid size place old gives shows = let new = fresh m mid size place gives in cc
 
--- the zone stays, also over a write
-pub zone_given : (m mid : Memory) (size : ℕ) (frugal : Bool) (reply : Option (Result ℕ Shortage)) → Gives (temp_alloc m size) frugal (without_temp m) reply mid → mid.zone ≡ m.zone
-zone_given m mid size frugal reply gives = zone_after (temp_alloc m size) frugal m (without_temp m) mid reply (zone-temp_alloc m size) (zone-without_temp m) gives
+-- what lies beside the high hunk and the cache stays, also over a write
+pub beside_given : (m mid : Memory) (size : ℕ) (frugal : Bool) (reply : Option (Result ℕ Shortage)) → Gives (temp_alloc m size) frugal (without_temp m) reply mid → beside_high mid ≡ beside_high m
+beside_given m mid size frugal None gives = ap beside_high gives.after ∙ beside-without_temp m
+beside_given m mid size frugal (Some reply) gives = ap beside_high gives.after ∙ beside-temp_alloc m size
 
-pub zone_written : (m mid new : Memory) (size : ℕ) (bytes : List ℕ) (frugal : Bool) (reply : Option (Result ℕ Shortage)) → Gives (temp_alloc m size) frugal (without_temp m) reply mid → new ≡ with_temp_bytes mid bytes → new.zone ≡ m.zone
-zone_written m mid new size bytes frugal reply gives wrote = ap (λ (n : Memory). n.zone) wrote ∙ zone-with_temp_bytes mid bytes ∙ zone_given m mid size frugal reply gives
+beside-with_temp_of : (m : Memory) (bytes : List ℕ) (temp : Option ℕ) → beside_high (with_temp_bytes_of m bytes temp) ≡ beside_high m
+beside-with_temp_of m bytes None = refl
+beside-with_temp_of m bytes (Some mark) = refl
+
+beside-with_temp_bytes : (m : Memory) (bytes : List ℕ) → beside_high (with_temp_bytes m bytes) ≡ beside_high m
+unfolding with_temp_bytes
+beside-with_temp_bytes m bytes = beside-with_temp_of m bytes m.temp
+
+pub beside_written : (m mid new : Memory) (size : ℕ) (bytes : List ℕ) (frugal : Bool) (reply : Option (Result ℕ Shortage)) → Gives (temp_alloc m size) frugal (without_temp m) reply mid → new ≡ with_temp_bytes mid bytes → beside_high new ≡ beside_high m
+beside_written m mid new size bytes frugal reply gives wrote = ap beside_high wrote ∙ beside-with_temp_bytes mid bytes ∙ beside_given m mid size frugal reply gives
 
 module _ (m : Memory) (name : List ℕ) where
   abbrev loaded_in : Option (ℕ × FileAt) → Loading

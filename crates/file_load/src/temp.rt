@@ -1,7 +1,7 @@
 // Loading a file into the temporary block.
 ghost use Rattle.std.specs.Prelude.{◌≡◌, ◌≤◌, [], length, slice_get, Some, IfErr, IfOk, IfSome, IsSomeAnd, IsErrOf, false};
 ghost use Rattle.std.specs.Result.{result_err};
-ghost use Rattle.mem_model.specs.Keeps.{KeepsAll};
+ghost use Rattle.mem_model.specs.Keeps.{KeepsAll, beside_high};
 ghost use Rattle.mem_model.specs.Laid.{Laid};
 ghost use Rattle.mem_model.specs.Hunk.{temp_bytes, without_temp};
 ghost use Rattle.search_paths.specs.Counts.{NoneFalls};
@@ -44,7 +44,7 @@ pub fn load_temp<M: Store, F: Folder>(
         → (M.frugal ≡ false) × (M.state store.new ≡ without_temp (M.state store.old)) }
     ensures keeps { Laid (M.state store.old) → KeepsAll [] (M.state store.old) (M.state store.new) }
     ensures laid { Laid (M.state store.old) → Laid (M.state store.new) }
-    ensures zone { (M.state store.new).zone ≡ (M.state store.old).zone }
+    ensures beside { beside_high (M.state store.new) ≡ beside_high (M.state store.old) }
 
     // The path.
     ensures same { SamePath F.files paths.old paths.new }

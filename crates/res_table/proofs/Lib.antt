@@ -1,4 +1,5 @@
 mod Examples
+pub mod Beside
 pub mod Rows
 pub mod Naming
 pub mod Entering

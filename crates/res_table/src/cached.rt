@@ -4,7 +4,7 @@ ghost use Rattle.mem_model.specs.Answer.{Gives};
 ghost use Rattle.mem_model.specs.Cache.{peek_bytes};
 ghost use Rattle.mem_model.specs.Hunk.{temp_bytes};
 ghost use Rattle.mem_model.specs.Images.{HasBytes, front_of, image_size};
-ghost use Rattle.mem_model.specs.Keeps.{KeepsAll};
+ghost use Rattle.mem_model.specs.Keeps.{KeepsAll, beside_high};
 ghost use Rattle.mem_model.specs.Laid.{Laid, IsText};
 ghost use Rattle.mem_model.specs.Told.{room_answer};
 ghost use Rattle.res_table.specs.Cached.{cached};
@@ -36,6 +36,7 @@ pub(crate) fn build_cached<M: Store>(
     ensures built { OnOk result (IfOk (image_of builder.now.speed builder.now.kind
         (front_of (temp_bytes (M.state store.old)) length)) (BeginsWith (peek_bytes (M.state store.new).cache user))) }
     ensures keeps { KeepsAll (made_for user result) (M.state store.old) (M.state store.new) }
+    ensures beside { beside_high (M.state store.new) ≡ beside_high (M.state store.old) }
     ensures laid { Laid (M.state store.new) }
 {
     match store.cache_alloc(user, size, name) {

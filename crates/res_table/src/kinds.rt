@@ -50,9 +50,9 @@ impl Table {
         }
     }
 
-    // The name of the file of a name.
+    /// The name of the file of a name.
     #[tactic(auto, using(crate::proofs::Naming::naming))]
-    pub(crate) fn file(self, name: &GameName) -> GameName
+    pub fn file(self, name: &GameName) -> GameName
         requires { HasFileName self name.now }
         ensures { result ≡ file_of self name.now }
     {

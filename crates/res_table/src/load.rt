@@ -4,7 +4,7 @@ ghost use Rattle.base_fields.specs.Names.{base_of};
 ghost use Rattle.mem_model.specs.Cache.{peek_bytes};
 ghost use Rattle.mem_model.specs.Hunk.{temp_bytes};
 ghost use Rattle.mem_model.specs.Images.{HasBytes, front_of};
-ghost use Rattle.mem_model.specs.Keeps.{KeepsAll};
+ghost use Rattle.mem_model.specs.Keeps.{KeepsAll, beside_high};
 ghost use Rattle.mem_model.specs.Laid.{Laid};
 ghost use Rattle.search_paths.specs.Counts.{NoneFalls};
 ghost use Rattle.search_paths.specs.Path.{rows_of, told_mounts, counts_of, SamePath};
@@ -66,6 +66,7 @@ pub(crate) fn load<M: Store, F: Folder>(
     ensures built { IfOk result (λ res. IfSome (peek_bytes (M.state store.new).cache user)
         (IsImageOf speed (told_mounts F.files paths.old) table file.now (loaded_of res))) }
     ensures keeps { KeepsAll (made_for user result) (M.state store.old) (M.state store.new) }
+    ensures beside { beside_high (M.state store.new) ≡ beside_high (M.state store.old) }
     ensures fresh { IfOk result (λ res. res.loaded ≡ true) }
     ensures memory { IsErrOf result AcquireError.OutOfMemory → M.frugal ≡ false }
     ensures laid { Laid (M.state store.new) }

@@ -1,7 +1,7 @@
 // The resources of a game.
 ghost use Rattle.std.specs.Prelude.{◌≡◌, ◌<◌, [], ◌∷◌, None, Some, Ok, false, is_none};
 ghost use Rattle.std.specs.Prelude.{IfOk, IfErr, IfSome, IsErrOf, MatchOption};
-ghost use Rattle.mem_model.specs.Keeps.{KeepsAll};
+ghost use Rattle.mem_model.specs.Keeps.{KeepsAll, beside_high};
 ghost use Rattle.mem_model.specs.Laid.{Laid};
 ghost use Rattle.search_paths.specs.Counts.{NoneFalls};
 ghost use Rattle.search_paths.specs.Path.{rows_of, told_mounts, counts_of, SamePath};
@@ -11,6 +11,7 @@ ghost use Rattle.res_table.specs.Calls.{AsksOnce};
 ghost use Rattle.res_table.specs.Faults.{IsAcquireFault};
 ghost use Rattle.res_table.specs.Held.{AreHeld, AreThere, seen};
 ghost use Rattle.res_table.specs.Images.{HasFileName, IsImage, file_of};
+ghost use Rattle.res_table.specs.Kept.{GrowsLow};
 ghost use Rattle.res_table.specs.Resources.{no_resources, rows_in, with_rows};
 ghost use Rattle.res_table.specs.Tables.{entered, most_of, slot_for, user_of};
 
@@ -98,6 +99,7 @@ impl ResTable {
         ensures old { IfOk result (λ found. IfSome found (λ res. res.loaded ≡ false)) }
         ensures full { IfErr result (λ e. e ≡ AcquireError.TableFull) }
         ensures keeps { KeepsAll [] (M.state store.old) (M.state store.new) }
+        ensures beside { beside_high (M.state store.new) ≡ beside_high (M.state store.old) }
         ensures laid { Laid (M.state store.old) → Laid (M.state store.new) }
     {
         let slots = self.slots(table);
@@ -137,6 +139,8 @@ impl ResTable {
         ensures held { AreHeld (told_mounts F.files paths.new) self.new (M.state store.new) }
         ensures keeps { KeepsAll (user_of table (slot_for name.now (rows_in self.old table)) ∷ []) (M.state store.old)
             (M.state store.new) }
+        ensures low { GrowsLow (M.state store.old) (M.state store.new) }
+        ensures zone { (M.state store.new).zone ≡ (M.state store.old).zone }
         ensures table { self.new ≡ table_after self.old table name.now result }
         ensures memory { IsErrOf result AcquireError.OutOfMemory → M.frugal ≡ false }
         ensures laid { Laid (M.state store.new) }

@@ -1,6 +1,6 @@
 // The use of a resource that is there.
 ghost use Rattle.std.specs.Prelude.{◌≡◌, [], MatchOption, IfSome, false, option_map};
-ghost use Rattle.mem_model.specs.Keeps.{KeepsAll};
+ghost use Rattle.mem_model.specs.Keeps.{KeepsAll, beside_high};
 ghost use Rattle.mem_model.specs.Laid.{Laid};
 ghost use Rattle.res_table.specs.Acquire.{place_of, used, old_res};
 
@@ -28,6 +28,7 @@ pub(crate) fn used<M: Store>(store: &mut M, user: u32, loaded: &Loaded) -> Optio
         (λ _. M.state store.new ≡ used (M.state store.old) user loaded.now.low) }
     ensures old { IfSome result (λ res. res.loaded ≡ false) }
     ensures keeps { KeepsAll [] (M.state store.old) (M.state store.new) }
+    ensures beside { beside_high (M.state store.new) ≡ beside_high (M.state store.old) }
     ensures laid { Laid (M.state store.old) → Laid (M.state store.new) }
 {
     match loaded.low {

@@ -8,7 +8,7 @@ use Rattle.search_paths.specs.Path.{told_mounts}
 use Rattle.file_load.proofs.Asking.{asks_refused, asks_unread, asks_read}
 use Rattle.file_load.proofs.Keeping.{kept_same, kept_temp, kept_temp_written}
 use Rattle.file_load.proofs.Loading.{zero_behind, room_in}
-use Rattle.file_load.proofs.Temps.{fresh, are_zeros, zone_given, zone_written, leaves_early, leaves_refused, leaves_made, leaves_unread, early_temp, refused_temp, unread_temp, loaded_temp}
+use Rattle.file_load.proofs.Temps.{fresh, are_zeros, beside_given, beside_written, leaves_early, leaves_refused, leaves_made, leaves_unread, early_temp, refused_temp, unread_temp, loaded_temp}
 use Rattle.file_load.proofs.temp.load_temp.Goals as goal
 
 pub returns-in_err-file-clause-leaves : goal.returns-in_err-file-clause-leaves
@@ -43,8 +43,8 @@ returns-in_err-_place-clause-told g c =
     let p = err_from_is_err_and c.from_residual-in_err-_place.result c.from_residual-in_err-_place.ensures.1 in
     rw (p.1, p.2) (refused_temp _ _ c.in_ok-file.file (find_told c.args.name.now (told_mounts g.F.Folder.files c.args.paths.now)) c.in_err-_place.field-0.0 g.M.Store.frugal _ c.in_ok-file.ensures.told c.in_err-_place.ensures.gives)
 
-pub returns-in_err-_place-clause-zone : goal.returns-in_err-_place-clause-zone
-returns-in_err-_place-clause-zone g c = zone_given _ _ (c.in_ok-file.file.length + 1) g.M.Store.frugal (room_answer c.temp_alloc.result) c.temp_alloc.ensures.gives
+pub returns-in_err-_place-clause-beside : goal.returns-in_err-_place-clause-beside
+returns-in_err-_place-clause-beside g c = beside_given _ _ (c.in_ok-file.file.length + 1) g.M.Store.frugal (room_answer c.temp_alloc.result) c.temp_alloc.ensures.gives
 
 pub temp_bytes_mut-requires : goal.temp_bytes_mut-requires
 temp_bytes_mut-requires g c = rw (fresh _ _ _ _ c.in_ok-_place.ensures.gives) refl
@@ -62,9 +62,9 @@ returns-in_err-read_whole-clause-told g c =
 pub returns-in_err-read_whole-clause-laid : goal.returns-in_err-read_whole-clause-laid
 returns-in_err-read_whole-clause-laid g c = λ before. rw g.met.M.Store.temp_writes (Laid-with_temp_bytes _ _ c.temp_alloc.ensures.laid)
 
-pub returns-in_err-read_whole-clause-zone : goal.returns-in_err-read_whole-clause-zone
-returns-in_err-read_whole-clause-zone g c =
-    zone_written _ _ _ (c.in_ok-file.file.length + 1) _ g.M.Store.frugal (room_answer c.temp_alloc.result) c.temp_alloc.ensures.gives (g.met.M.Store.temp_writes _ _)
+pub returns-in_err-read_whole-clause-beside : goal.returns-in_err-read_whole-clause-beside
+returns-in_err-read_whole-clause-beside g c =
+    beside_written _ _ _ (c.in_ok-file.file.length + 1) _ g.M.Store.frugal (room_answer c.temp_alloc.result) c.temp_alloc.ensures.gives (g.met.M.Store.temp_writes _ _)
 
 pub returns-clause-told : goal.returns-clause-told
 returns-clause-told g c =
@@ -86,9 +86,9 @@ returns-clause-zero g c =
 pub returns-clause-laid : goal.returns-clause-laid
 returns-clause-laid g c = λ before. rw g.met.M.Store.temp_writes (Laid-with_temp_bytes _ _ c.temp_alloc.ensures.laid)
 
-pub returns-clause-zone : goal.returns-clause-zone
-returns-clause-zone g c =
-    zone_written _ _ _ (c.in_ok-file.file.length + 1) _ g.M.Store.frugal (room_answer c.temp_alloc.result) c.temp_alloc.ensures.gives (g.met.M.Store.temp_writes _ _)
+pub returns-clause-beside : goal.returns-clause-beside
+returns-clause-beside g c =
+    beside_written _ _ _ (c.in_ok-file.file.length + 1) _ g.M.Store.frugal (room_answer c.temp_alloc.result) c.temp_alloc.ensures.gives (g.met.M.Store.temp_writes _ _)
 
 pub returns-in_err-_place-clause-asked : goal.returns-in_err-_place-clause-asked
 returns-in_err-_place-clause-asked g c =

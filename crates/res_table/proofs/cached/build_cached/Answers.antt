@@ -1,6 +1,8 @@
 use Rattle.std.proofs.Common.{arith, refl}
 use Rattle.mem_model.specs.Event.{CacheRefusal.NoRoom}
 use Rattle.res_table.specs.Images.{image_of}
+use Rattle.mem_model.specs.Told.{cache_answer}
+use Rattle.res_table.proofs.Beside.{beside_asked, beside_built}
 use Rattle.res_table.proofs.Caching.{front-cached, image_bounds, image-cached, never_bad, never_occupied, refused_for, stands-cached}
 use Rattle.res_table.proofs.Kept.{kept_built, kept_refused}
 use Rattle.res_table.proofs.cached.build_cached.Goals as goal
@@ -52,3 +54,10 @@ pub returns-in-Ok-clause-built : goal.returns-in-Ok-clause-built
 returns-in-Ok-clause-built g c =
     front-cached _ _ c.args.user c.args.size c.args.name.now c.in-Ok.ensures.gives c.cache_alloc.ensures.was_laid c.requires.known c.requires.name
     _ (image_of c.args.builder.now.speed c.args.builder.now.kind) c.args.length _ refl c.requires.image c.build_cache.ensures.gives
+
+pub returns-in-Ok-clause-beside : goal.returns-in-Ok-clause-beside
+returns-in-Ok-clause-beside g c =
+    beside_built _ _ _ c.args.user c.args.size c.args.length c.args.name.now (image_of c.args.builder.now.speed c.args.builder.now.kind) _ c.in-Ok.ensures.gives c.build_cache.ensures.gives
+
+pub returns-in-Err-NoRoom-clause-beside : goal.returns-in-Err-NoRoom-clause-beside
+returns-in-Err-NoRoom-clause-beside g c = beside_asked _ _ c.args.user c.args.size c.args.name.now g.M.Store.frugal (cache_answer c.cache_alloc.result) c.cache_alloc.ensures.gives
