@@ -1,3 +1,4 @@
 mod DigitLaws
+mod ImageLaws
 mod Examples
 mod LineLaws
