@@ -103,10 +103,10 @@ AsksTooMuch request = 1024 * request.heap < hunk_need (1024 * request.zone)
 abbrev pub no_events : ℕ
 no_events = 0
 
--- the state at the start, with a heap and a zone of so many KB, and room for so many events
+-- the state at the start, with a heap and a zone of so many KB, room for so many events, and the speed that is asked for
 abbrev pub first_state : Request → (event_room : ℕ) → PathSeen → State
 first_state request event_room path =
-    started (new_memory (1024 * request.heap) (1024 * request.zone) USERS event_room) path
+    started (new_memory (1024 * request.heap) (1024 * request.zone) USERS event_room) path request.speed
 
 -- the number of the word of a folder, by its number among those that are asked for; the first folder's word has this number
 abbrev pub word_of : (first number : ℕ) → ℕ

@@ -9,6 +9,7 @@ use std::process::Abort;
 mod commands;
 mod endings;
 mod mounts;
+mod sounds;
 
 const WORDS: [&str; 3] = ["-heapsize", "1024", "d"];
 

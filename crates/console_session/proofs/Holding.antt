@@ -6,10 +6,11 @@ use Rattle.mem_model.specs.Laid.{Laid, IsText}
 use Rattle.mem_model.specs.Zone.{zone_bytes}
 use Rattle.mem_model.specs.Apart.{AreUsed}
 use Rattle.mem_model.specs.Event.{Shortage}
-use Rattle.mem_model.specs.Answer.{Answers, Gives}
-use Rattle.mem_model.specs.Hunk.{without_temp}
-use Rattle.mem_model.specs.Operations.{low_alloc, high_alloc, high_mark, high_free}
-use Rattle.mem_model.proofs.Untouched.{zone_bytes-same, zone-low_alloc, zone-high_alloc, zone-high_mark, zone-high_free, zone-without_temp}
+use Rattle.mem_model.specs.Answer.{Gives}
+use Rattle.mem_model.specs.Keeps.{Keeps, beside_zone}
+use Rattle.mem_model.specs.Operations.{low_alloc}
+use Rattle.mem_model.proofs.Keeping.{Keeps-beside_zone}
+use Rattle.mem_model.proofs.Untouched.{zone_bytes-same, zone-low_alloc}
 use Rattle.zone_values.specs.Held.{NoneAmong, OthersStay, KeepsAt}
 use Rattle.zone_values.proofs.HeldLaws.{some-kept, AreHeld-same, among_turned}
 use Rattle.zone_values.proofs.ValueLaws.{some_bytes}
@@ -17,6 +18,9 @@ use Rattle.cvar_table.specs.Cvars.{Cvar, HoldsCvars, created, defaults, places_o
 use Rattle.cvar_table.proofs.CreatedLaws.{created_new}
 use Rattle.cmd_buffer.specs.Aliases.{Alias, HoldsAliases, aliases_of, alias_places}
 use Rattle.cmd_buffer.proofs.AliasLaws.{aliases_still, holds_none, aliases_none}
+use Rattle.res_table.specs.Held.{AreHeld, lows_of}
+use Rattle.res_table.specs.Resources.{Resources}
+use Rattle.res_table.proofs.Holding.{AreHeld-Keeps}
 use Rattle.console_session.specs.States.{State, PathSeen, IsNew}
 use Rattle.console_session.specs.Holding.{Holds, IsLowMark}
 
@@ -42,11 +46,12 @@ same_bytes m n [] same = tt
 same_bytes m n (place ∷ places) same = (λ bytes there. zone_bytes-same n m place same ∙ there, same_bytes m n places same)
 
 -- a step that leaves the zone
-pub holds_memory : (s : State) (m : Memory) → Holds s → Laid m → IsLowMark m.low s.level → m.zone ≡ s.memory.zone → Holds (record s { memory = m })
-holds_memory s m h laid level same =
+pub holds_parts : (s : State) (m : Memory) (table : Resources) → Holds s → Laid m → AreHeld s.path.mounts table m → IsLowMark m.low s.level → m.zone ≡ s.memory.zone → Holds (record s { memory = m; table = table })
+holds_parts s m table h laid resources level same =
     let still = aliases_still s.memory m s.newest (same_bytes s.memory m (alias_places (aliases_of s.memory s.newest)) same) h.aliases in
     record {
       laid = laid;
+      resources = resources;
       level = level;
       text = h.text;
       cvars = AreHeld-same s.memory m (cvar_places s.cvars) same h.cvars;
@@ -54,21 +59,34 @@ holds_memory s m h laid level same =
       apart = subst (λ (all : List Alias). NoneAmong (alias_places all) (cvar_places s.cvars)) (sym still.1) h.apart;
     }
 
+-- the same where the tables stay, and the blocks that they name
+pub holds_memory : (s : State) (m : Memory) → Holds s → Laid m → IsLowMark m.low s.level → m.zone ≡ s.memory.zone → Keeps (lows_of s.table) [] s.memory m → Holds (record s { memory = m })
+holds_memory s m h laid level same keeps =
+    holds_parts s m s.table h laid (AreHeld-Keeps s.path.mounts s.table s.memory m h.resources keeps) level same
+
 pub holds_buffer : (s : State) (buffer : List ℕ) → Holds s → IsText buffer → Holds (record s { buffer = buffer })
-holds_buffer s buffer h text = record { laid = h.laid; level = h.level; text = text; cvars = h.cvars; aliases = h.aliases; apart = h.apart }
+holds_buffer s buffer h text = record { laid = h.laid; resources = h.resources; level = h.level; text = text; cvars = h.cvars; aliases = h.aliases; apart = h.apart }
 
 pub holds_level : (s : State) (level : ℕ) → Holds s → IsLowMark s.memory.low level → Holds (record s { level = level })
-holds_level s level h is = record { laid = h.laid; level = is; text = h.text; cvars = h.cvars; aliases = h.aliases; apart = h.apart }
+holds_level s level h is = record { laid = h.laid; resources = h.resources; level = is; text = h.text; cvars = h.cvars; aliases = h.aliases; apart = h.apart }
+
+-- where the zone's blocks changed alone
+held_beside : (s : State) (m : Memory) → Holds s → beside_zone m ≡ beside_zone s.memory → AreHeld s.path.mounts s.table m
+held_beside s m h beside = AreHeld-Keeps s.path.mounts s.table s.memory m h.resources (Keeps-beside_zone (lows_of s.table) [] s.memory m beside)
+
+level_beside : (s : State) (m : Memory) → Holds s → beside_zone m ≡ beside_zone s.memory → IsLowMark m.low s.level
+level_beside s m h beside = subst (λ l. IsLowMark l s.level) (sym (ap (λ (n : Memory). n.low) beside)) h.level
 
 -- the cvars changed in their blocks
-pub holds_cvars : (s : State) (m : Memory) (cvars : List Cvar) → Holds s → Laid m → m.low ≡ s.memory.low → HoldsCvars m cvars → OthersStay s.memory m (cvar_places s.cvars) (cvar_places cvars) →
+pub holds_cvars : (s : State) (m : Memory) (cvars : List Cvar) → Holds s → Laid m → beside_zone m ≡ beside_zone s.memory → HoldsCvars m cvars → OthersStay s.memory m (cvar_places s.cvars) (cvar_places cvars) →
     Holds (record s { memory = m; cvars = cvars })
-holds_cvars s m cvars h laid low holds stay =
+holds_cvars s m cvars h laid beside holds stay =
     let places = alias_places (aliases_of s.memory s.newest) in
     let still = aliases_still s.memory m s.newest (still_bytes s.memory m _ _ stay places h.apart) h.aliases in
     record {
       laid = laid;
-      level = subst (λ l. IsLowMark l s.level) (sym low) h.level;
+      resources = held_beside s m h beside;
+      level = level_beside s m h beside;
       text = h.text;
       cvars = holds;
       aliases = still.0;
@@ -76,14 +94,15 @@ holds_cvars s m cvars h laid low holds stay =
     }
 
 -- the aliases changed in their blocks
-pub holds_aliases : (s : State) (m : Memory) (newest : Option ℕ) → Holds s → Laid m → m.low ≡ s.memory.low → HoldsAliases m newest →
+pub holds_aliases : (s : State) (m : Memory) (newest : Option ℕ) → Holds s → Laid m → beside_zone m ≡ beside_zone s.memory → HoldsAliases m newest →
     OthersStay s.memory m (alias_places (aliases_of s.memory s.newest)) (alias_places (aliases_of m newest)) → Holds (record s { memory = m; newest = newest })
-holds_aliases s m newest h laid low holds stay =
+holds_aliases s m newest h laid beside holds stay =
     let places = cvar_places s.cvars in
     let apart = among_turned (alias_places (aliases_of s.memory s.newest)) places h.apart in
     record {
       laid = laid;
-      level = subst (λ l. IsLowMark l s.level) (sym low) h.level;
+      resources = held_beside s m h beside;
+      level = level_beside s m h beside;
       text = h.text;
       cvars = record { used = still_used s.memory m _ _ stay places apart h.cvars.used; apart = h.cvars.apart };
       aliases = holds;
@@ -95,23 +114,11 @@ pub zone_after_low : (m n : Memory) (size : ℕ) (name : List ℕ) (frugal : Boo
 zone_after_low m n size name frugal None given = ap (λ (x : Memory). x.zone) given.after
 zone_after_low m n size name frugal (Some reply) given = ap (λ (x : Memory). x.zone) given.after ∙ zone-low_alloc m size name
 
--- the zone after a high allocation
-pub zone_after_high : (m n : Memory) (size : ℕ) (name : List ℕ) (frugal : Bool) (reply : Option (Result ℕ Shortage)) → Gives (high_alloc m size name) frugal (without_temp m) reply n → n.zone ≡ m.zone
-zone_after_high m n size name frugal None given = ap (λ (x : Memory). x.zone) given.after ∙ zone-without_temp m
-zone_after_high m n size name frugal (Some reply) given = ap (λ (x : Memory). x.zone) given.after ∙ zone-high_alloc m size name
-
--- the zone once the high hunk was cleared, and a block was asked for there
-pub zone_after_video : (m marked freed n : Memory) (size : ℕ) (name : List ℕ) (frugal : Bool) (mark : ℕ) (answer : Result (Unit {0}) ℕ) (reply : Option (Result ℕ Shortage)) →
-    Answers (high_mark m) mark marked → Answers (high_free marked 0) answer freed → Gives (high_alloc freed size name) frugal (without_temp freed) reply n → n.zone ≡ m.zone
-zone_after_video m marked freed n size name frugal mark answer reply marking freeing given =
-    zone_after_high freed n size name frugal reply given
-    ∙ ap (λ (x : Memory). x.zone) freeing.after ∙ zone-high_free marked 0
-    ∙ ap (λ (x : Memory). x.zone) marking.after ∙ zone-high_mark m
-
 -- at the start
-pub holds_first : (m : Memory) (path : PathSeen) (level : ℕ) (cvars : List Cvar) → Laid m → IsLowMark m.low level → HoldsCvars m cvars → Holds (record { memory = m; path = path; buffer = []; level = level; cvars = cvars; newest = None })
-holds_first m path level cvars laid mark holds = record {
+pub holds_first : (m : Memory) (path : PathSeen) (table : Resources) (level : ℕ) (cvars : List Cvar) → Laid m → AreHeld path.mounts table m → IsLowMark m.low level → HoldsCvars m cvars → Holds (record { memory = m; path = path; table = table; buffer = []; level = level; cvars = cvars; newest = None })
+holds_first m path table level cvars laid resources mark holds = record {
   laid = laid;
+  resources = resources;
   level = mark;
   text = All-nil (λ byte. byte ≢ 0);
   cvars = holds;

@@ -10,3 +10,5 @@ pub mod Marking
 pub mod Valuing
 pub mod Taking
 pub mod Wording
+pub mod Clearing
+pub mod Acquiring

@@ -5,26 +5,18 @@ use Rattle.std.specs.List.{AllByRecursion}
 use Rattle.std.proofs.lemmas.List.{take-append-le, take-append-drop}
 use Rattle.std.proofs.lemmas.Bool.{cases_lt}
 use Rattle.std.proofs.lemmas.Bool.Decides.{nat_tests}
-use Rattle.std.specs.Prelude.{bytes_eq, find}
 use Rattle.base_fields.specs.Names.{base_of}
 use Rattle.mem_model.specs.Blocks.{HunkBlock}
 use Rattle.mem_model.specs.Memory.{Memory, size_of, room}
 use Rattle.mem_model.specs.Answer.{Answered, Answers, Gives, with_event}
 use Rattle.mem_model.specs.Event.{Event, Shortage}
 use Rattle.mem_model.specs.Places.{hunk_need}
-use Rattle.mem_model.specs.Hunk.{hunk_block, with_low, with_low_bytes, with_bytes, with_bytes_from, with_bytes_above, cut_from, cut_above, with_high, without_temp, temp_freed}
-use Rattle.mem_model.specs.Operations.{low_alloc, low_free, low_cut, high_taken, high_alloc, high_cut, high_free, high_mark, z_alloc}
+use Rattle.mem_model.specs.Hunk.{hunk_block, with_low, with_low_bytes, with_bytes, with_bytes_from, with_bytes_above, cut_from, cut_above}
+use Rattle.mem_model.specs.Operations.{low_alloc, low_free, low_cut}
 use Rattle.mem_model.specs.Laid.{IsHunkBlock, AreLowBlocks}
 use Rattle.mem_model.proofs.Laying.{size_of-take, low-take}
 use Rattle.mem_model.proofs.Cuts.{cut_whole}
-use Rattle.mem_model.proofs.Untouched.{low-z_alloc, low-z_free, low-with_zone_bytes}
 use Rattle.mem_model.specs.declared.answers.Place.{Place}
-use Rattle.zone_values.specs.Values.{put_value, replace_value}
-use Rattle.zone_values.proofs.ValueLaws.{low-put_value, low-replace_value}
-use Rattle.cvar_table.specs.Cvars.{Cvar, set_cvar}
-use Rattle.cvar_table.proofs.CvarLaws.{low-set_cvar}
-use Rattle.cmd_buffer.specs.Aliases.{Alias, AliasRefusal, AliasRefusal.LongName, aliases_of, refused, value_reset, record_written, record_added, set_named, set_alias}
-use Rattle.cmd_buffer.specs.AliasCalls.{given_back, GivesSet}
 use Rattle.file_load.specs.declared.errors.LoadError.{LoadError}
 use Rattle.file_load.specs.declared.errors.LoadError.TheVariants as load
 use Rattle.file_load.specs.declared.errors.Stage.TheVariants as stage
@@ -202,86 +194,6 @@ mark_freed m to mark laid is above = subst (λ l. IsLowMark l mark) (sym (low-wi
     by low laid is None same = is
     by [] laid is (Some kept) same = absurd laid
     by (zone ∷ blocks) laid is (Some kept) same = kept_by zone blocks laid.1 is (cut_from zone.size blocks to) (cut_keeps zone.size blocks to) kept same
-
--- The high hunk's calls and the zone's leave the low hunk.
-low-without_temp : (m : Memory) → (without_temp m).low ≡ m.low
-unfolding without_temp
-low-without_temp m = by m.temp
-  where
-    by : (temp : Option ℕ) → (temp_freed m temp).low ≡ m.low
-    by None = refl
-    by (Some mark) = refl
-
-low-high_taken : (m : Memory) (size : ℕ) (name : List ℕ) → (high_taken m size name).after.low ≡ m.low
-unfolding high_taken with_high
-low-high_taken m size name = either (ltb (room m) (hunk_need size)) _ _ (λ n. n.low ≡ m.low) refl refl
-
-low-high_alloc : (m : Memory) (size : ℕ) (name : List ℕ) → (high_alloc m size name).after.low ≡ m.low
-unfolding high_alloc
-low-high_alloc m size name = low-with_event _ _ ∙ low-high_taken (without_temp m) size name ∙ low-without_temp m
-
-low-high_cut : (m : Memory) (mark : ℕ) (kept : Option (List HunkBlock)) → (high_cut m mark kept).after.low ≡ m.low
-low-high_cut m mark None = refl
-low-high_cut m mark (Some kept) = refl
-
-low-high_free : (m : Memory) (mark : ℕ) → (high_free m mark).after.low ≡ m.low
-unfolding high_free
-low-high_free m mark = low-with_event _ _ ∙ low-high_cut (without_temp m) mark (cut_from 0 (without_temp m).high mark) ∙ low-without_temp m
-
-low-high_mark : (m : Memory) → (high_mark m).after.low ≡ m.low
-unfolding high_mark
-low-high_mark m = low-with_event _ _ ∙ low-without_temp m
-
-low_after_high : (m n : Memory) (size : ℕ) (name : List ℕ) (frugal : Bool) (reply : Option (Result ℕ Shortage)) → Gives (high_alloc m size name) frugal (without_temp m) reply n → n.low ≡ m.low
-low_after_high m n size name frugal None given = ap (λ (x : Memory). x.low) given.after ∙ low-without_temp m
-low_after_high m n size name frugal (Some reply) given = ap (λ (x : Memory). x.low) given.after ∙ low-high_alloc m size name
-
-pub low_after_video : (m marked freed n : Memory) (size : ℕ) (name : List ℕ) (frugal : Bool) (mark : ℕ) (answer : Result (Unit {0}) ℕ) (reply : Option (Result ℕ Shortage)) →
-    Answers (high_mark m) mark marked → Answers (high_free marked 0) answer freed → Gives (high_alloc freed size name) frugal (without_temp freed) reply n → n.low ≡ m.low
-low_after_video m marked freed n size name frugal mark answer reply marking freeing given =
-    low_after_high freed n size name frugal reply given
-    ∙ ap (λ (x : Memory). x.low) freeing.after ∙ low-high_free marked 0
-    ∙ ap (λ (x : Memory). x.low) marking.after ∙ low-high_mark m
-
-pub low_after_cvar : (m n : Memory) (cvars : List Cvar) (name value : List ℕ) (frugal : Bool) (reply : Option (Result Bool ℕ)) → Gives (set_cvar m cvars name value).given frugal m reply n → n.low ≡ m.low
-low_after_cvar m n cvars name value frugal None gives = ap (λ (x : Memory). x.low) gives.after
-low_after_cvar m n cvars name value frugal (Some reply) gives = ap (λ (x : Memory). x.low) gives.after ∙ low-set_cvar m cvars name value
-
-low-reset : (newest : Option ℕ) (place : ℕ) (m : Memory) (answer : Result ℕ ℕ) → (value_reset newest place m answer).after.low ≡ m.low
-low-reset newest place m (Ok value) = low-with_zone_bytes m place _
-low-reset newest place m (Err asked) = refl
-
-low-written : (newest : Option ℕ) (name : List ℕ) (place : ℕ) (m : Memory) (answer : Result ℕ ℕ) → (record_written newest name place m answer).after.low ≡ m.low
-low-written newest name place m (Ok value) = low-with_zone_bytes m place _
-low-written newest name place m (Err asked) = low-z_free m place
-
-low-recorded : (newest : Option ℕ) (name value : List ℕ) (m : Memory) (answer : Result ℕ ℕ) → (record_added newest name value m answer).after.low ≡ m.low
-low-recorded newest name value m (Ok place) = low-written newest name place (put_value m value).after (put_value m value).answer ∙ low-put_value m value
-low-recorded newest name value m (Err asked) = refl
-
-low-set_alias : (m : Memory) (newest : Option ℕ) (name value : List ℕ) → (set_alias m newest name value).after.low ≡ m.low
-unfolding set_alias
-low-set_alias m newest name value = by (ltb 31 (length name)) (find (λ (a : Alias). bytes_eq a.name name) (aliases_of m newest))
-  where
-    named : (o : Option Alias) → (set_named m newest name value o).after.low ≡ m.low
-    named None = low-recorded newest name value (z_alloc m 40).after (z_alloc m 40).answer ∙ low-z_alloc m 40
-    named (Some a) = low-reset newest a.record_place (replace_value m a.value_place value).after (replace_value m a.value_place value).answer ∙ low-replace_value m value a.value_place
-
-    by : (t : Bool) (o : Option Alias) → (cond t (refused LongName m newest) (set_named m newest name value o)).after.low ≡ m.low
-    by true o = refl
-    by false o = named o
-
-low-given_back : (m : Memory) (answer : Result ℕ ℕ) → (given_back m answer).low ≡ m.low
-low-given_back m (Ok place) = low-z_free m place
-low-given_back m (Err asked) = refl
-
-pub low_after_alias : (m n : Memory) (before newest : Option ℕ) (name value : List ℕ) (frugal : Bool) (reply : Option (Result (Unit {0}) AliasRefusal)) → GivesSet (set_alias m before name value) frugal m before reply n newest → n.low ≡ m.low
-low_after_alias m n before newest name value frugal (Some reply) gives = ap (λ (x : Memory). x.low) gives.after ∙ low-set_alias m before name value
-low_after_alias m n before newest name value frugal None gives = by gives.after
-  where
-    by : (n ≡ m) ⊎ (n ≡ given_back (z_alloc m 40).after (z_alloc m 40).answer) → n.low ≡ m.low
-    by (inl same) = ap (λ (x : Memory). x.low) same
-    by (inr back) = ap (λ (x : Memory). x.low) back ∙ low-given_back (z_alloc m 40).after (z_alloc m 40).answer ∙ low-z_alloc m 40
 
 -- The low hunk can be freed to such a mark.
 pub mark_lawful : (m : Memory) (mark : ℕ) → AreLowBlocks m.low → IsLowMark m.low mark → (low_free m mark).answer ≡ Ok tt

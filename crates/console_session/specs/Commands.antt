@@ -1,12 +1,12 @@
 -- The commands.
-use Rattle.std.specs.Prelude.{ℕ, Bool, ◌==◌, if◌then◌else◌, List, [], ◌∷◌, ◌++◌, length}
+use Rattle.std.specs.Prelude.{ℕ, Bool, ◌==◌, if◌then◌else◌, List, [], ◌∷◌, ◌++◌, length, bytes_eq, is_none}
 use Rattle.std.specs.Prelude.{drop, slice_index_or, Option, Some, None, Result, Ok, Err, codes, decimal}
-use Rattle.base_fields.specs.Names.{lawful_name, base_of}
+use Rattle.base_fields.specs.Names.{lawful_name, base_of, is_game_name}
 use Rattle.base_fields.specs.Numbers.{number_of}
 use Rattle.base_fields.specs.Texts.{until_zero}
 use Rattle.search_paths.specs.declared.answers.MountRow.{MountRow}
 use Rattle.search_paths.specs.declared.answers.MountRow.TheVariants as row
-use Rattle.file_load.specs.Loads.{Load, Load.Missing, Load.Beyond, Load.NoRoom, Load.At, Loading, load_low}
+use Rattle.file_load.specs.Loads.{Load, Load.Missing, Load.Beyond, Load.NoRoom, Load.At, Loading, load_low, load_temp}
 use Rattle.mem_model.specs.Memory.{Memory, low_used}
 use Rattle.mem_model.specs.Answer.{Answered}
 use Rattle.mem_model.specs.Event.{Shortage}
@@ -17,9 +17,21 @@ use Rattle.cmd_buffer.specs.Buffer.{fits_in, cut, short_command}
 use Rattle.cmd_buffer.specs.Aliases.{AliasText, AliasSet, AliasRefusal, AliasRefusal.LongName, AliasRefusal.Full}
 use Rattle.cmd_buffer.specs.Aliases.{alias_texts, alias_value, set_alias}
 use Rattle.cvar_table.specs.Cvars.{CvarSet, cvar_value, set_cvar}
+use Rattle.info_text.specs.Dumps.{dump_text}
+use Rattle.info_text.specs.Infos.{info_text}
+use Rattle.info_text.specs.Lines.{bad_text, resource_text}
 use Rattle.reply_pieces.specs.Pieces.{joined}
+use Rattle.res_table.specs.Acquire.{Acquired, acquire, answered_before}
+use Rattle.res_table.specs.Held.{seen}
+use Rattle.res_table.specs.Images.{file_of}
+use Rattle.res_table.specs.declared.answers.AcquireError.{AcquireError}
+use Rattle.res_table.specs.declared.answers.AcquireError.TheVariants as acquire_error
+use Rattle.res_table.specs.declared.answers.Res.{Res}
+use Rattle.res_table.specs.declared.kinds.Kind.{Kind}
+use Rattle.res_table.specs.declared.kinds.Table.{Table}
+use Rattle.res_table.specs.declared.kinds.Table.TheVariants.{Sounds}
 use Rattle.console_session.specs.Verbs.{verb_of}
-use Rattle.console_session.specs.States.{State, Did, Untold, says, takes, loads}
+use Rattle.console_session.specs.States.{State, Did, Told, Untold, says, takes, loads}
 use Rattle.console_session.specs.declared.ends.Next.TheVariants.{Goes, Waits, Quits}
 use Rattle.console_session.specs.declared.verbs.Verb.{Verb}
 use Rattle.console_session.specs.declared.verbs.Verb.TheVariants as verb
@@ -159,6 +171,63 @@ answer_report s = says s Goes (report_text s.memory)
 abbrev pub answer_flush : State → Did
 answer_flush s = says (record s { memory = (flush s.memory).after }) Goes []
 
+-- why a resource was not acquired; the name of its file is told where that can't be loaded
+abbrev pub refused_text : (name file : List ℕ) → AcquireError → List ℕ
+refused_text name file acquire_error.TableFull = joined (codes "table full\n" ∷ [])
+refused_text name file acquire_error.NotFound = missing_text (codes "not found: ") file
+refused_text name file (acquire_error.BeyondPack end whole) = beyond_text file end whole
+refused_text name file (acquire_error.Bad fault) = bad_text name fault
+refused_text name file (acquire_error.NoRoom asked room) = short_text asked
+refused_text name file (acquire_error.FolderFault folder) = []
+refused_text name file acquire_error.OutOfMemory = []
+
+abbrev pub acquired_text : (name file : List ℕ) → Result Res AcquireError → List ℕ
+acquired_text name file (Ok res) = resource_text name res
+acquired_text name file (Err error) = refused_text name file error
+
+-- a resource was acquired; where its file was needed, it was asked for, and so was memory
+abbrev pub with_acquired : (needed : Bool) → (name file : List ℕ) → State → Option Acquired → Did
+with_acquired needed name file s None = Untold
+with_acquired needed name file s (Some given) = Told (record {
+  after = record s { memory = given.after; table = given.table };
+  reply = record { text = acquired_text name file given.answer; load = needed; takes = needed };
+  next = Goes;
+})
+
+abbrev pub acquire_named : Table → List ℕ → State → Did
+acquire_named table name s =
+    with_acquired (is_none (answered_before s.table s.memory table name)) name (file_of table name) s
+    (acquire s.table s.memory table name (load_temp s.path.mounts s.memory (file_of table name)))
+
+-- the resource of a name is acquired, where the name and that of its file are lawful
+abbrev pub answer_acquire : Table → Option (List ℕ) → State → Did
+answer_acquire table None s = bad_name s
+answer_acquire table (Some name) s =
+    if is_game_name (file_of table name) then acquire_named table name s else bad_name s
+
+abbrev pub bad_kind : State → Did
+bad_kind s = says s Goes (joined (codes "bad kind\n" ∷ []))
+
+abbrev pub absent_text : List ℕ → List ℕ
+absent_text name = joined (name ∷ codes " is absent\n" ∷ [])
+
+-- what is told of the image of a name, where there is one
+abbrev pub image_text : (Kind → (name image : List ℕ) → List ℕ) → List ℕ → Option (Kind × List ℕ) → List ℕ
+image_text tells name None = absent_text name
+image_text tells name (Some shown) = tells shown.0 name shown.1
+
+-- a command that tells of an image; the table and the name are refused in this order
+abbrev pub by_image : (Kind → (name image : List ℕ) → List ℕ) → Option Table → Option (List ℕ) → State → Did
+by_image tells None name s = bad_kind s
+by_image tells (Some table) None s = bad_name s
+by_image tells (Some table) (Some name) s = says s Goes (image_text tells name (seen s.table s.memory table name))
+
+abbrev pub answer_info : Option Table → Option (List ℕ) → State → Did
+answer_info table name s = by_image info_text table name s
+
+abbrev pub answer_dump : Option Table → Option (List ℕ) → State → Did
+answer_dump table name s = by_image (λ kind. dump_text) table name s
+
 -- a block of the zone of this size was refused
 abbrev pub full_text : ℕ → List ℕ
 full_text asked = joined (codes "zone full: " ∷ decimal asked ∷ codes " bytes\n" ∷ [])
@@ -250,6 +319,10 @@ name_in number words = lawful_name (word_at number words)
 abbrev pub number_in : ℕ → List (List ℕ) → Option ℕ
 number_in number words = number_of (word_at number words)
 
+-- the table that the word of this number names, in exact case
+abbrev pub table_in : ℕ → List (List ℕ) → Option Table
+table_in number words = if bytes_eq (word_at number words) (codes "sound") then Some Sounds else None
+
 -- one arm for each command
 abbrev pub by_verb : Option Verb → List (List ℕ) → State → Did
 by_verb None words s = by_name words s
@@ -265,6 +338,9 @@ by_verb (Some verb.Report) words s = answer_report s
 by_verb (Some verb.Alias) words s = answer_alias words s
 by_verb (Some verb.Path) words s = answer_path s
 by_verb (Some verb.Flush) words s = answer_flush s
+by_verb (Some verb.Sound) words s = answer_acquire Sounds (name_in 1 words) s
+by_verb (Some verb.Info) words s = answer_info (table_in 1 words) (name_in 2 words) s
+by_verb (Some verb.Dump) words s = answer_dump (table_in 1 words) (name_in 2 words) s
 
 -- a text without words does nothing
 abbrev pub by_words : List (List ℕ) → State → Did

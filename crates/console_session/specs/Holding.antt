@@ -8,6 +8,7 @@ use Rattle.zone_values.specs.Held.{NoneAmong}
 use Rattle.cvar_table.specs.Cvars.{HoldsCvars, places_of as cvar_places}
 use Rattle.cmd_buffer.specs.Aliases.{HoldsAliases, aliases_of, alias_places}
 use Rattle.cmd_buffer.specs.Words.{letters_in}
+use Rattle.res_table.specs.Held.{AreHeld}
 use Rattle.console_session.specs.States.{State}
 
 -- The mark is one of the low hunk: the end of the zone's block, or of one above it.
@@ -17,10 +18,11 @@ pub record IsLowMark (low : List HunkBlock) (mark : ℕ) : Type 0 where
   pub inside : count ≤ length low
   pub ends : size_of (take count low) ≡ mark
 
--- The memory is laid out, the host level is a mark of the low hunk, the buffer has no zero byte, and the cvars and the
--- aliases are in used blocks of the zone, each in its own.
+-- The memory is laid out, each resource that is there is the image of its file, the host level is a mark of the low hunk, the
+-- buffer has no zero byte, and the cvars and the aliases are in used blocks of the zone, each in its own.
 pub record Holds (s : State) : Type 0 where
   pub laid : Laid s.memory
+  pub resources : AreHeld s.path.mounts s.table s.memory
   pub level : IsLowMark s.memory.low s.level
   pub text : IsText s.buffer
   pub cvars : HoldsCvars s.memory s.cvars

@@ -24,6 +24,7 @@ abbrev pub seen : {M F : Type 0} → StoreGhosts M → FolderGhosts F → Consol
 seen store folder console = record {
   memory = store.state console.store;
   path = path_of folder console.paths;
+  table = console.table;
   buffer = console.buffer;
   level = console.level;
   cvars = console.cvars;

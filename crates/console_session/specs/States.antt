@@ -8,6 +8,7 @@ use Rattle.search_paths.specs.Counts.{NoneFalls, RoseAt}
 use Rattle.outside_io.specs.Streams.{Adds, AddsFront}
 use Rattle.mem_model.specs.Memory.{Memory, low_used, new_memory}
 use Rattle.cvar_table.specs.Cvars.{Cvar, created, defaults}
+use Rattle.res_table.specs.Resources.{Resources, no_resources}
 use Rattle.console_session.specs.declared.session.TheConstants.{USERS}
 use Rattle.console_session.specs.declared.ends.Next.{Next}
 use Rattle.console_session.specs.declared.ends.Next.TheVariants.{Goes}
@@ -21,11 +22,12 @@ pub record PathSeen : Type 0 where
   pub mounts : List (Option Mount)
   pub told : List (Option (List File))
 
--- The memory; the path; the bytes of the command buffer; the host level, a mark of the low hunk; the cvars; and the record
--- of the newest alias. The values of the cvars, and the aliases, are read from the memory.
+-- The memory; the path; the resources; the bytes of the command buffer; the host level, a mark of the low hunk; the cvars; and
+-- the record of the newest alias. The values of the cvars, the aliases and the images of resources are read from the memory.
 pub record State : Type 0 where
   pub memory : Memory
   pub path : PathSeen
+  pub table : Resources
   pub buffer : List ℕ
   pub level : ℕ
   pub cvars : List Cvar
@@ -43,12 +45,13 @@ abbrev pub cvars_in : Result (List Cvar) ℕ → List Cvar
 cvars_in (Ok cvars) = cvars
 cvars_in (Err asked) = []
 
--- At the start the cvars have their defaults, there is no alias, the buffer is empty, and the host level is where the low
--- hunk ends.
-abbrev pub started : Memory → PathSeen → State
-started m path = record {
+-- At the start the cvars have their defaults, there is no alias and no resource, the buffer is empty, and the host level is
+-- where the low hunk ends. Sounds are made for `speed` samples a second.
+abbrev pub started : Memory → PathSeen → (speed : ℕ) → State
+started m path speed = record {
   memory = (created m defaults).after;
   path = path;
+  table = no_resources speed;
   buffer = [];
   level = low_used m;
   cvars = cvars_in (created m defaults).answer;

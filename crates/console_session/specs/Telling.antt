@@ -12,7 +12,12 @@ use Rattle.mem_model.specs.declared.answers.ZoneError.{ZoneError}
 use Rattle.mem_model.specs.declared.answers.ZoneError.TheVariants as zone
 use Rattle.cmd_buffer.specs.declared.aliases.AliasError.{AliasError}
 use Rattle.cmd_buffer.specs.declared.aliases.AliasError.TheVariants as alias
+use Rattle.info_text.specs.Lines.{resource_text}
+use Rattle.res_table.specs.declared.answers.AcquireError.{AcquireError}
+use Rattle.res_table.specs.declared.answers.AcquireError.TheVariants as acquire
+use Rattle.res_table.specs.declared.answers.Res.{Res}
 use Rattle.console_session.specs.Commands.{missing_text, beyond_text, short_text, full_text, long_name_text, block_text}
+use Rattle.console_session.specs.Commands.{refused_text}
 use Rattle.console_session.specs.declared.ends.Fault.{Fault}
 use Rattle.console_session.specs.declared.ends.Fault.TheVariants as fault
 
@@ -61,3 +66,14 @@ alias_told (Ok done) = Ok []
 alias_told (Err alias.LongName) = Ok long_name_text
 alias_told (Err (alias.Zone (zone.Full asked))) = Ok (full_text asked)
 alias_told (Err (alias.Zone zone.OutOfMemory)) = Err fault.Memory
+
+-- how a resource that was not acquired is told
+abbrev pub refused_told : (name file : List ℕ) → AcquireError → Result (List ℕ) Fault
+refused_told name file (acquire.FolderFault folder) = Err (fault.Folder folder)
+refused_told name file acquire.OutOfMemory = Err fault.Memory
+refused_told name file error = Ok (refused_text name file error)
+
+-- how a resource is told that was acquired, or not
+abbrev pub acquired_told : (name file : List ℕ) → Result Res AcquireError → Result (List ℕ) Fault
+acquired_told name file (Ok res) = Ok (resource_text name res)
+acquired_told name file (Err error) = refused_told name file error

@@ -26,6 +26,9 @@ verbs =
     named (codes "alias") verb.Alias ∷
     named (codes "path") verb.Path ∷
     named (codes "flush") verb.Flush ∷
+    named (codes "sound") verb.Sound ∷
+    named (codes "info") verb.Info ∷
+    named (codes "dump") verb.Dump ∷
     []
 
 -- the first of these that a word names, in any case

@@ -4,9 +4,13 @@ ghost use Rattle.search_paths.specs.Path.{rows_of};
 ghost use Rattle.reply_pieces.specs.Pieces.{text_of, joined, PutsText};
 ghost use Rattle.cmd_buffer.specs.Aliases.{HoldsAliases, alias_texts};
 ghost use Rattle.block_report.specs.Reports.{report_text};
-ghost use Rattle.console_session.specs.Telling.{Puts, load_told, block_told, cvar_told, alias_told};
+ghost use Rattle.info_text.specs.Dumps.{dump_text};
+ghost use Rattle.info_text.specs.Infos.{info_text};
+ghost use Rattle.info_text.specs.Lines.{bad_text, resource_text};
+ghost use Rattle.res_table.specs.Images.{HasFileName, IsImage, file_of};
+ghost use Rattle.console_session.specs.Telling.{Puts, acquired_told, refused_told, load_told, block_told, cvar_told, alias_told};
 ghost use Rattle.console_session.specs.Commands.{missing_text, beyond_text, short_text, full_text, long_name_text};
-ghost use Rattle.console_session.specs.Commands.{block_text, spaced};
+ghost use Rattle.console_session.specs.Commands.{absent_text, block_text, spaced};
 ghost use Rattle.console_session.specs.Commands.{exec_text, file_text, cvar_text, expansion_text, unknown_text};
 ghost use Rattle.console_session.specs.Commands.{alias_line, alias_lines, alias_list, mount_line, mount_lines};
 
@@ -15,9 +19,11 @@ use base_fields::GameName;
 use block_report::report;
 use cmd_buffer::{AliasError, Aliases, Words};
 use file_load::LoadError;
+use info_text::{dump, info, put_bad, put_resource};
 use mem_model::{Place, RoomError, Store, ZoneError};
 use outside_io::{Folder, Sink, SinkFailed};
 use reply_pieces::{Piece, put_all};
+use res_table::{AcquireError, Fault as Wrong, Kind, Res, Table};
 use search_paths::{MountRow, Paths};
 
 // A path has 65536 folders at most, each with 32 packs at most.
@@ -268,6 +274,113 @@ pub fn put_report<M: Store, O: Sink>(store: &M, out: &mut O) -> Result<Next, Fau
     ensures { Puts O.Sink (Ok (report_text (M.state store.now))) Next.Goes out.old out.new result }
 {
     match report(store, out) {
+        Ok(()) => Ok(Next::Goes),
+        Err(_) => Err(Fault::Write),
+    }
+}
+
+pub fn put_bad_kind<O: Sink>(out: &mut O) -> Result<Next, Fault>
+    ensures { Puts O.Sink (Ok (joined (codes "bad kind\n" ∷ []))) Next.Goes out.old out.new result }
+{
+    reply(out, &[Piece::Text(b"bad kind\n")])
+}
+
+fn put_table_full<O: Sink>(out: &mut O) -> Result<Next, Fault>
+    ensures { Puts O.Sink (Ok (joined (codes "table full\n" ∷ []))) Next.Goes out.old out.new result }
+{
+    reply(out, &[Piece::Text(b"table full\n")])
+}
+
+// Shows a resource.
+fn put_res<O: Sink>(out: &mut O, name: &GameName, res: &Res) -> Result<Next, Fault>
+    ensures { Puts O.Sink (Ok (resource_text name.now res.now)) Next.Goes out.old out.new result }
+{
+    match put_resource(name, res, out) {
+        Ok(()) => Ok(Next::Goes),
+        Err(_) => Err(Fault::Write),
+    }
+}
+
+// Says why a file is no resource.
+fn put_fault<O: Sink>(out: &mut O, name: &GameName, fault: Wrong) -> Result<Next, Fault>
+    ensures { Puts O.Sink (Ok (bad_text name.now fault)) Next.Goes out.old out.new result }
+{
+    match put_bad(name, fault, out) {
+        Ok(()) => Ok(Next::Goes),
+        Err(_) => Err(Fault::Write),
+    }
+}
+
+// Says why a resource was not acquired.
+fn put_refused<O: Sink>(
+    out: &mut O,
+    table: Table,
+    name: &GameName,
+    error: AcquireError,
+) -> Result<Next, Fault>
+    requires { HasFileName table name.now }
+    ensures { Puts O.Sink (refused_told name.now (file_of table name.now) error) Next.Goes out.old out.new result }
+{
+    match error {
+        AcquireError::TableFull => put_table_full(out),
+        AcquireError::NotFound => put_missing(out, b"not found: ", &table.file(name)),
+        AcquireError::BeyondPack { end, length } => {
+            put_beyond(out, &table.file(name), end, length)
+        }
+        AcquireError::Bad(fault) => put_fault(out, name, fault),
+        AcquireError::NoRoom { asked, .. } => put_short(out, asked),
+        AcquireError::FolderFault { folder } => Err(Fault::Folder { folder }),
+        AcquireError::OutOfMemory => Err(Fault::Memory),
+    }
+}
+
+// Shows a resource that was acquired, or says why there is none.
+pub fn put_acquired<O: Sink>(
+    out: &mut O,
+    table: Table,
+    name: &GameName,
+    answer: Result<Res, AcquireError>,
+) -> Result<Next, Fault>
+    requires { HasFileName table name.now }
+    ensures { Puts O.Sink (acquired_told name.now (file_of table name.now) answer) Next.Goes out.old out.new result }
+{
+    match answer {
+        Ok(res) => put_res(out, name, &res),
+        Err(error) => put_refused(out, table, name, error),
+    }
+}
+
+// Says of a resource that it isn't there.
+pub fn put_absent<O: Sink>(out: &mut O, name: &GameName) -> Result<Next, Fault>
+    ensures { Puts O.Sink (Ok (absent_text name.now)) Next.Goes out.old out.new result }
+{
+    reply(
+        out,
+        &[Piece::Text(name.bytes()), Piece::Text(b" is absent\n")],
+    )
+}
+
+// Tells what an image says.
+pub fn put_info<O: Sink>(
+    out: &mut O,
+    kind: Kind,
+    name: &GameName,
+    image: &[u8],
+) -> Result<Next, Fault>
+    requires { IsImage kind image.now }
+    ensures { Puts O.Sink (Ok (info_text kind name.now image.now)) Next.Goes out.old out.new result }
+{
+    match info(kind, name, image, out) {
+        Ok(()) => Ok(Next::Goes),
+        Err(_) => Err(Fault::Write),
+    }
+}
+
+// Tells the bytes of an image.
+pub fn put_dump<O: Sink>(out: &mut O, name: &GameName, image: &[u8]) -> Result<Next, Fault>
+    ensures { Puts O.Sink (Ok (dump_text name.now image.now)) Next.Goes out.old out.new result }
+{
+    match dump(name, image, out) {
         Ok(()) => Ok(Next::Goes),
         Err(_) => Err(Fault::Write),
     }

@@ -4,6 +4,7 @@ ghost use Rattle.mem_model.specs.Laid.{Laid};
 ghost use Rattle.console_session.specs.States.{started, IsNew, HasCauses};
 ghost use Rattle.search_paths.specs.Path.{counts_of};
 ghost use Rattle.console_session.specs.Serving.{path_of};
+ghost use Rattle.res_table.specs.Resources.{no_resources};
 ghost use Rattle.console_session.specs.Sessions.{told_end, is_end};
 ghost use Rattle.console_session.specs.Frames.{finish, line, Runs, NoneAsks};
 
@@ -12,6 +13,7 @@ use crate::ends::{Fault, StepEnd};
 use cmd_buffer::CommandText;
 use mem_model::Store;
 use outside_io::{Folder, Sink};
+use res_table::ResTable;
 use search_paths::Paths;
 use std::alloc::AllocError;
 use std::marker::Model;
@@ -19,8 +21,8 @@ use std::marker::Model;
 /// How many users the cache of a session's store has.
 pub const USERS: u32 = 768;
 
-/// A console over a store and a path of folders. In every session the memory is laid out, and the cvars and aliases are in
-/// blocks of the zone that nothing else writes.
+/// A console over a store, a path of folders and a table of resources. In every session the memory is laid out, each resource
+/// that is there is the image of its file, and the cvars and aliases are in blocks of the zone that nothing else writes.
 #[derive(Drop)]
 pub struct Session<M: Store, F: Folder = Box<dyn Folder>> {
     console: Console<M, F>,
@@ -47,18 +49,25 @@ impl<M: Store, F: Folder> Model for Session<M, F> {
 }
 
 impl<M: Store, F: Folder> Session<M, F> {
-    /// A session over a store that was just created, with a zone of at least 4096 bytes and 768 cache users, and a path.
+    /// A session over a store that was just created, with a zone of at least 4096 bytes and 768 cache users, a path, and a
+    /// table that was just created, whose speed is that of the sounds.
     ///
     /// The cvars get their defaults. It holds what is handed in and values of fixed size, and takes no memory of its own:
-    /// only a store that isn't frugal may refuse, for want of memory, and is dropped then with the path.
-    pub fn start(store: M, paths: Paths<F>) -> Result<Session<M, F>, AllocError>
+    /// only a store that isn't frugal may refuse, for want of memory, and is dropped then with the path and the table.
+    pub fn start(
+        store: M,
+        paths: Paths<F>,
+        table: ResTable,
+    ) -> Result<Session<M, F>, AllocError>
         requires new { IsNew (M.state store) }
-        ensures state { IfOk result (λ session. session.state ≡ started (M.state store) (path_of F.Folder paths)) }
+        requires empty { table ≡ no_resources table.speed }
+        ensures state { IfOk result (λ session.
+            session.state ≡ started (M.state store) (path_of F.Folder paths) table.speed) }
         ensures faults { IfOk result (λ session. session.faults ≡ counts_of F.folder_faults paths) }
         ensures going { IfOk result (λ session. session.ended ≡ false) }
         ensures memory { OnErr result (M.frugal ≡ false) }
     {
-        match Console::start(store, paths) {
+        match Console::start(store, paths, table) {
             Ok(console) => Ok(Session {
                 console,
                 text: CommandText::new(),

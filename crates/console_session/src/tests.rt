@@ -3,6 +3,7 @@ ghost use Rattle.std.specs.Prelude.{◌≡◌, IfOk, false};
 use crate::{Session, StepEnd, USERS};
 use mem_model::PlainStore;
 use outside_io::{MemFile, MemFolder, MemSink};
+use res_table::ResTable;
 use search_paths::Paths;
 use std::alloc::{AllocError, Global};
 use std::test::Fail;
@@ -34,16 +35,24 @@ fn session(alloc: Global, first: u64, second: u64) -> Result<Session<PlainStore,
     if let Err(error) = paths.mount(alloc, folder(alloc, b"a.txt", b"1234567", second)?) {
         return Err(Fail::from(error));
     }
-    Ok(Session::start(store, paths)?)
+    let table = ResTable::create(alloc, 11_025)?;
+    Ok(Session::start(store, paths, table)?)
 }
 
 #[test]
 fn a_session_ends_by_itself(rt: HostRuntime) -> Result<(), Fail> {
-    let cases: [(&[u8], u64, u64, StepEnd, &str); 6] = [
+    let cases: [(&[u8], u64, u64, StepEnd, &str); 7] = [
         (b"echo b", 9, 9, StepEnd::Went, "a \nb \n"),
         (b"echo b;quit;echo c", 9, 9, StepEnd::Quit, "a \nb \n"),
         (
             b"file a.txt;echo b",
+            9,
+            1,
+            StepEnd::FolderFault { folder: 1 },
+            "a \n",
+        ),
+        (
+            b"sound x.wav;echo b",
             9,
             1,
             StepEnd::FolderFault { folder: 1 },

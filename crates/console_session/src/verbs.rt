@@ -18,6 +18,9 @@ pub enum Verb {
     Alias,
     Path,
     Flush,
+    Sound,
+    Info,
+    Dump,
 }
 
 // Whether the two are the same but for the case of their letters.
@@ -66,6 +69,15 @@ pub fn find_verb(word: &[u8]) -> Option<Verb>
     }
     if is_same(word, b"flush") {
         return Some(Verb::Flush);
+    }
+    if is_same(word, b"sound") {
+        return Some(Verb::Sound);
+    }
+    if is_same(word, b"info") {
+        return Some(Verb::Info);
+    }
+    if is_same(word, b"dump") {
+        return Some(Verb::Dump);
     }
     None
 }

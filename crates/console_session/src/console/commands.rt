@@ -1,10 +1,11 @@
 // The commands that load mounts, and those that ask for blocks.
-ghost use Rattle.std.specs.Prelude.{◌≡◌, ◌≤◌, ◌++◌, length, IfOk, IfSome, IsSomeAnd, take, if◌then◌else◌};
+ghost use Rattle.std.specs.Prelude.{◌≡◌, ◌≤◌, ◌++◌, length, IfOk, IfSome, IsSomeAnd, All, take, if◌then◌else◌};
 ghost use Rattle.base_fields.specs.Texts.{until_zero};
 ghost use Rattle.mem_model.specs.Hunk.{low_bytes};
 ghost use Rattle.mem_model.specs.Operations.{low_free};
 ghost use Rattle.cmd_buffer.specs.Buffer.{fits_in};
 ghost use Rattle.file_load.specs.Loads.{load_low, Loads};
+ghost use Rattle.res_table.specs.Held.{lows_of};
 ghost use Rattle.console_session.specs.Holding.{Holds};
 ghost use Rattle.console_session.specs.Serving.{seen, Does, KeepsRest};
 ghost use Rattle.console_session.specs.Commands.{answer_echo, answer_file, answer_exec, answer_reserve};
@@ -58,6 +59,7 @@ impl<M: Store, F: Folder> Console<M, F> {
     fn insert_loaded(&mut self, mark: u32, place: Place, size: u64) -> bool
         requires holds { Holds (seen M.Store F.Folder self.old) }
         requires below { self.old.level ≤ mark }
+        requires lows { All (λ place. place ≤ mark) (lows_of self.old.table) }
         requires there { IsSomeAnd (low_bytes (M.state self.old.store) place.0) (λ bytes. size ≤ length bytes) }
         ensures buffer { IfSome (low_bytes (M.state self.old.store) place.0) (λ bytes.
             self.new.buffer ≡ (if fits_in (until_zero (take size bytes)) self.old.buffer

@@ -4,7 +4,7 @@ ghost use Rattle.cmd_buffer.specs.Buffer.{taken_text};
 ghost use Rattle.mem_model.specs.Laid.{IsText};
 ghost use Rattle.console_session.specs.Holding.{Holds, AreShort};
 ghost use Rattle.console_session.specs.Serving.{seen, Does, RunsAs};
-ghost use Rattle.console_session.specs.Commands.{by_verb, by_words, by_text, command, name_in, number_in};
+ghost use Rattle.console_session.specs.Commands.{by_verb, by_words, by_text, command, name_in, number_in, table_in};
 ghost use Rattle.console_session.specs.Frames.{frame, line, overflowed, ending};
 
 use crate::console::Console;
@@ -15,6 +15,7 @@ use base_fields::{GameName, decimal, game_name};
 use cmd_buffer::{CommandText, Taken, Words, tokenize};
 use mem_model::Store;
 use outside_io::{Folder, Sink};
+use res_table::Table;
 
 // How many commands a frame takes.
 const MOST: u32 = 4096;
@@ -45,6 +46,9 @@ impl<M: Store, F: Folder> Console<M, F> {
             Some(Verb::Alias) => self.alias(words, out),
             Some(Verb::Path) => self.list_path(out),
             Some(Verb::Flush) => self.flush_cache(out),
+            Some(Verb::Sound) => self.acquire(Table::Sounds, name_in(words, 1), out),
+            Some(Verb::Info) => self.info(table_in(words, 1), name_in(words, 2), out),
+            Some(Verb::Dump) => self.dump(table_in(words, 1), name_in(words, 2), out),
         }
     }
 
@@ -156,6 +160,17 @@ fn number_in(words: &Words<'_>, number: usize) -> Option<u32>
     ensures { result ≡ number_in number words.now }
 {
     decimal(words.word(number)).ok()
+}
+
+// The table that the word of this number names, in exact case.
+fn table_in(words: &Words<'_>, number: usize) -> Option<Table>
+    ensures { result ≡ table_in number words.now }
+{
+    if words.word(number) == b"sound".as_slice() {
+        Some(Table::Sounds)
+    } else {
+        None
+    }
 }
 
 // Whether a frame ends behind a command, and whether by `quit`.

@@ -1,4 +1,7 @@
 use Rattle.std.proofs.Common.{◌≡◌, codes, refl, ap, arith}
+use Rattle.mem_model.proofs.Keeping.{low-below_end}
+use Rattle.res_table.specs.Held.{lows_of}
+use Rattle.res_table.proofs.Holding.{AreHeld-lows}
 use Rattle.console_session.specs.Commands.{inserted_file, exec_text}
 use Rattle.console_session.specs.declared.console.Console.{Console}
 use Rattle.console_session.specs.States.{State}
@@ -24,3 +27,9 @@ insert_loaded-inserted-requires-clause-below g c =
     let s = seen g.M.Store g.F.Folder c.args.self.now in
     let same_level : c.load.new.self.level ≡ s.level = ap (λ (x : State). x.level) c.in-Ok.ensures.rest.state in
     omega (arith, same_level, mark_within s.memory.low s.level c.requires.holds.level, c.low_mark-mark.ensures.mark)
+
+pub insert_loaded-inserted-requires-clause-lows : goal.insert_loaded-inserted-requires-clause-lows
+insert_loaded-inserted-requires-clause-lows g c =
+    let s = seen g.M.Store g.F.Folder c.args.self.now in
+    let same_table : c.load.new.self.table ≡ s.table = ap (λ (x : State). x.table) c.in-Ok.ensures.rest.state in
+    rw (same_table, c.low_mark-mark.ensures.mark) (low-below_end s.memory (lows_of s.table) c.requires.holds.laid (AreHeld-lows s.path.mounts s.table s.memory c.requires.holds.resources))

@@ -1,6 +1,8 @@
-use Rattle.std.proofs.Common.{ap, subst, sym, ◌∙◌}
+use Rattle.std.proofs.Common.{[], ap, subst, sym, ◌∙◌}
 use Rattle.mem_model.specs.Memory.{Memory}
+use Rattle.mem_model.proofs.Keeping.{Keeps-answer, Keeps-low_free}
 use Rattle.mem_model.proofs.Untouched.{zone-low_free}
+use Rattle.res_table.specs.Held.{lows_of}
 use Rattle.console_session.specs.Serving.{seen}
 use Rattle.console_session.specs.Holding.{IsLowMark}
 use Rattle.console_session.proofs.Marking.{mark_freed}
@@ -14,5 +16,6 @@ returns-clause-holds g c =
     holds_buffer (record s { memory = m }) c.insert-inserted.new.buffer
     (holds_memory s m c.requires.holds c.low_free.ensures.laid
     (subst (λ (x : Memory). IsLowMark x.low s.level) (sym c.low_free.ensures.gives.after) (mark_freed s.memory c.args.mark s.level c.requires.holds.laid.low c.requires.holds.level c.requires.below))
-    (ap (λ (x : Memory). x.zone) c.low_free.ensures.gives.after ∙ zone-low_free s.memory c.args.mark))
+    (ap (λ (x : Memory). x.zone) c.low_free.ensures.gives.after ∙ zone-low_free s.memory c.args.mark)
+    (Keeps-answer c.low_free.ensures.gives (Keeps-low_free (lows_of s.table) [] s.memory c.args.mark c.requires.holds.laid c.requires.lows)))
     c.insert-inserted.ensures.text

@@ -1,0 +1,142 @@
+-- What a command does that acquires a resource.
+use Rattle.std.proofs.Common.{◌≡◌, ℕ, ◌<◌, length, List, Bool, true, false, Option, Some, None, IfSome, IfErr, Result, Ok, Err, refl, sym, ◌∙◌, ap, subst, arith, if◌then◌else◌}
+use Rattle.std.specs.Prelude.{IsTrue, IsErrOf, is_none, slice_index}
+use Rattle.std.specs.Bool.{OnFalse}
+use Rattle.base_fields.specs.Names.{is_game_name}
+use Rattle.outside_io.specs.declared.outside.Folder.{Ghosts as FolderGhosts}
+use Rattle.outside_io.specs.declared.outside.Sink.{Ghosts as SinkGhosts}
+use Rattle.mem_model.specs.Blocks.{HunkBlock}
+use Rattle.mem_model.specs.Laid.{Laid}
+use Rattle.mem_model.specs.Memory.{Memory}
+use Rattle.mem_model.specs.declared.store.Store.{Ghosts as StoreGhosts}
+use Rattle.file_load.specs.Loads.{load_temp}
+use Rattle.search_paths.specs.Mounts.{Mount}
+use Rattle.search_paths.specs.Counts.{NoneFalls}
+use Rattle.search_paths.specs.Path.{PathState, counts_of, told_mounts, SamePath}
+use Rattle.res_table.specs.Acquire.{Acquired, Acquires, IsAcquired, acquire, answered_before}
+use Rattle.res_table.specs.Faults.{IsAcquireFault}
+use Rattle.res_table.specs.Held.{AreHeld}
+use Rattle.res_table.specs.Images.{file_of}
+use Rattle.res_table.specs.Kept.{GrowsLow}
+use Rattle.res_table.specs.Resources.{Resources}
+use Rattle.res_table.specs.declared.answers.AcquireError.{AcquireError}
+use Rattle.res_table.specs.declared.answers.AcquireError.TheVariants as why
+use Rattle.res_table.specs.declared.answers.Res.{Res}
+use Rattle.res_table.specs.declared.kinds.Table.{Table}
+use Rattle.console_session.specs.Commands.{acquire_named, acquired_text, answer_acquire, bad_name, with_acquired}
+use Rattle.console_session.specs.Holding.{Holds, IsLowMark}
+use Rattle.console_session.specs.Serving.{seen, path_of, faults_in, calls_in, Does}
+use Rattle.console_session.specs.States.{State, PathSeen, Done, Did, Told, Untold, asks, CauseOf, Follows, HasCauses}
+use Rattle.console_session.specs.Telling.{Tells, Puts, acquired_told}
+use Rattle.console_session.specs.declared.console.Console.{Console}
+use Rattle.console_session.specs.declared.ends.Next.{Next}
+use Rattle.console_session.specs.declared.ends.Next.TheVariants.{Goes}
+use Rattle.console_session.specs.declared.ends.Fault.{Fault}
+use Rattle.console_session.specs.declared.ends.Fault.TheVariants as fault
+use Rattle.console_session.proofs.Following.{IsSaid, follows, still_put, cause_told}
+use Rattle.console_session.proofs.Holding.{holds_parts}
+use Rattle.console_session.proofs.Loading.{same_path, same_folders}
+use Rattle.console_session.proofs.Marking.{mark_below}
+use Rattle.console_session.proofs.Serving.{does_as}
+
+-- the state with another memory and other tables
+abbrev with_both : State → Memory → Resources → State
+with_both s m table = record s { memory = m; table = table }
+
+module _ (needed : Bool) (name file : List ℕ) (s after : State) (m : Memory) (table : Resources) (moved : after ≡ with_both s m table) (result : Result Next Fault) (start now : Option (List ℕ)) where
+  abbrev done : Acquired → Done
+  done given = record {
+    after = with_both s given.after given.table;
+    reply = record { text = acquired_text name file given.answer; load = needed; takes = needed };
+    next = Goes;
+  }
+
+  -- what was acquired is told
+  acquired_so : (given : Acquired) (answer : Result Res AcquireError) → IsAcquired given answer table m → Tells (Ok (acquired_text name file answer)) Goes result start now → Follows (Told (done given)) result after start now
+  acquired_so given answer is tells =
+      follows (done given) (Ok (acquired_text name file answer)) result after start now
+      (ap (acquired_text name file) is.answer, refl, moved ∙ ap (λ (n : Memory). with_both s n table) is.after ∙ ap (with_both s given.after) is.table_is) tells
+
+  acquired_given : (given : Acquired) (answer : Result Res AcquireError) → Acquires needed given answer table m → Tells (acquired_told name file answer) Goes result start now → Follows (Told (done given)) result after start now
+  acquired_given given (Ok res) is tells = acquired_so given (Ok res) is tells
+  acquired_given given (Err why.TableFull) is tells = acquired_so given (Err why.TableFull) is tells
+  acquired_given given (Err why.NotFound) is tells = acquired_so given (Err why.NotFound) is tells
+  acquired_given given (Err (why.BeyondPack end whole)) is tells = acquired_so given (Err (why.BeyondPack end whole)) is tells
+  acquired_given given (Err (why.Bad wrong)) is tells = acquired_so given (Err (why.Bad wrong)) is tells
+  acquired_given given (Err (why.NoRoom asked room)) is tells = acquired_so given (Err (why.NoRoom asked room)) is tells
+  acquired_given given (Err (why.FolderFault folder)) is tells = follows (done given) (Err (fault.Folder folder)) result after start now is tells
+  acquired_given given (Err why.OutOfMemory) is tells = follows (done given) (Err fault.Memory) result after start now is tells
+
+  pub acquired_follows : (given : Option Acquired) (answer : Result Res AcquireError) → IfSome given (λ g. Acquires needed g answer table m) → Tells (acquired_told name file answer) Goes result start now
+      → Follows (with_acquired needed name file s given) result after start now
+  acquired_follows None answer is tells = still_put (acquired_told name file answer) Goes result start now tells
+  acquired_follows (Some given) answer is tells = acquired_given given answer is tells
+
+-- a file isn't asked for where the resource is there
+unasked : (P : Type 0) (name file : List ℕ) (s : State) (before given : Option Acquired) → IfSome before (λ _. P) → OnFalse (asks (with_acquired (is_none before) name file s given)) P
+unasked P name file s None None same = tt
+unasked P name file s None (Some given) same = tt
+unasked P name file s (Some before) None same = tt
+unasked P name file s (Some before) (Some given) same = same
+
+acquire_cause : (name file : List ℕ) (frugal : Bool) (a b : List ℕ) (s t : ℕ) (answer : Result Res AcquireError) → IfErr answer (IsAcquireFault a b) → (IsErrOf answer why.OutOfMemory → frugal ≡ false)
+    → IfErr (acquired_told name file answer) (λ e. CauseOf frugal a b s t e)
+acquire_cause name file frugal a b s t (Ok res) is memory = tt
+acquire_cause name file frugal a b s t (Err why.TableFull) is memory = tt
+acquire_cause name file frugal a b s t (Err why.NotFound) is memory = tt
+acquire_cause name file frugal a b s t (Err (why.BeyondPack end whole)) is memory = tt
+acquire_cause name file frugal a b s t (Err (why.Bad wrong)) is memory = tt
+acquire_cause name file frugal a b s t (Err (why.NoRoom asked room)) is memory = tt
+acquire_cause name file frugal a b s t (Err (why.FolderFault folder)) is memory = is
+acquire_cause name file frugal a b s t (Err why.OutOfMemory) is memory = memory refl
+
+module _ {M F O : Type 0} (store : StoreGhosts M) (folder : FolderGhosts F) (sink : SinkGhosts O) (table : Table) (name : List ℕ) (old new : Console M F) (before now : O) (answer : Result Res AcquireError) (result : Result Next Fault) where
+  abbrev s : State
+  s = seen store folder old
+
+  abbrev file : List ℕ
+  file = file_of table name
+
+  pub does_acquired : IsTrue (is_game_name (file_of table name))
+      → IfSome (acquire s.table s.memory table name (load_temp s.path.mounts s.memory (file_of table name))) (λ given. Acquires (is_none (answered_before s.table s.memory table name)) given answer new.table (store.state new.store))
+      → IfSome (answered_before s.table s.memory table name) (λ _. new.paths ≡ old.paths)
+      → seen store folder new ≡ record s { memory = store.state new.store; path = path_of folder new.paths; table = new.table }
+      → Holds s → Laid (store.state new.store) → AreHeld (told_mounts folder.files new.paths) new.table (store.state new.store) → GrowsLow s.memory (store.state new.store) → (store.state new.store).zone ≡ s.memory.zone
+      → SamePath folder.files old.paths new.paths → NoneFalls (faults_in folder old) (faults_in folder new) → IfErr answer (IsAcquireFault (faults_in folder old) (faults_in folder new)) → (IsErrOf answer why.OutOfMemory → store.frugal ≡ false)
+      → Puts sink (acquired_told name (file_of table name) answer) Goes before now result → Does store folder sink (answer_acquire table (Some name)) old new before now result
+  does_acquired lawful told same others h laid held low zone path faults cause memory puts =
+      does_as store folder sink old new before now result (answer_acquire table (Some name)) (acquire_named table name) (ap (λ (b : Bool). if b then acquire_named table name s else bad_name s) lawful) (record {
+    told = acquired_follows needed name file s (seen store folder new) m new.table moved result (sink.got before) (sink.got now) given answer told puts.told;
+    path = stands;
+    holds = subst (λ (t : State). Holds t) (sym moved) (holds_parts s m new.table h laid held_here (subst (λ l. IsLowMark l s.level) (sym low.1) (mark_below s.memory.low low.0 s.level h.level)) zone);
+    causes = record {
+      none_falls = faults;
+      folders = same_folders folder old.paths new.paths path;
+      sink_counts = puts.counts;
+      cause = cause_told Goes store.frugal (faults_in folder old) (faults_in folder new) (sink.sink_faults before) (sink.sink_faults now) (acquired_told name file answer) result (sink.got before) (sink.got now) puts.told puts.cause
+          (acquire_cause name file store.frugal (faults_in folder old) (faults_in folder new) (sink.sink_faults before) (sink.sink_faults now) answer cause memory);
+    };
+    calls = unasked (calls_in folder new ≡ calls_in folder old) name file s (answered_before s.table s.memory table name) given (no_calls (answered_before s.table s.memory table name) same);
+  })
+    where
+      needed : Bool
+      needed = is_none (answered_before s.table s.memory table name)
+
+      m : Memory
+      m = store.state new.store
+
+      given : Option Acquired
+      given = acquire s.table s.memory table name (load_temp s.path.mounts s.memory (file_of table name))
+
+      stands : path_of folder new.paths ≡ path_of folder old.paths
+      stands = same_path folder old.paths new.paths path
+
+      moved : seen store folder new ≡ with_both s m new.table
+      moved = others ∙ ap (λ (p : PathSeen). record s { memory = m; path = p; table = new.table }) stands
+
+      held_here : AreHeld s.path.mounts new.table m
+      held_here = subst (λ (ms : List (Option Mount)). AreHeld ms new.table m) (ap (λ (p : PathSeen). p.mounts) stands) held
+
+      no_calls : (before : Option Acquired) → IfSome before (λ _. new.paths ≡ old.paths) → IfSome before (λ _. calls_in folder new ≡ calls_in folder old)
+      no_calls None is = tt
+      no_calls (Some before) is = ap (λ (p : PathState F). counts_of folder.folder_calls p) is
