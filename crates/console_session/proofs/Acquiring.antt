@@ -106,18 +106,18 @@ module _ {M F O : Type 0} (store : StoreGhosts M) (folder : FolderGhosts F) (sin
       → Puts sink (acquired_told name (file_of table name) answer) Goes before now result → Does store folder sink (answer_acquire table (Some name)) old new before now result
   does_acquired lawful told same others h laid held low zone path faults cause memory puts =
       does_as store folder sink old new before now result (answer_acquire table (Some name)) (acquire_named table name) (ap (λ (b : Bool). if b then acquire_named table name s else bad_name s) lawful) (record {
-    told = acquired_follows needed name file s (seen store folder new) m new.table moved result (sink.got before) (sink.got now) given answer told puts.told;
-    path = stands;
-    holds = subst (λ (t : State). Holds t) (sym moved) (holds_parts s m new.table h laid held_here (subst (λ l. IsLowMark l s.level) (sym low.1) (mark_below s.memory.low low.0 s.level h.level)) zone);
-    causes = record {
-      none_falls = faults;
-      folders = same_folders folder old.paths new.paths path;
-      sink_counts = puts.counts;
-      cause = cause_told Goes store.frugal (faults_in folder old) (faults_in folder new) (sink.sink_faults before) (sink.sink_faults now) (acquired_told name file answer) result (sink.got before) (sink.got now) puts.told puts.cause
-          (acquire_cause name file store.frugal (faults_in folder old) (faults_in folder new) (sink.sink_faults before) (sink.sink_faults now) answer cause memory);
-    };
-    calls = unasked (calls_in folder new ≡ calls_in folder old) name file s (answered_before s.table s.memory table name) given (no_calls (answered_before s.table s.memory table name) same);
-  })
+        told = acquired_follows needed name file s (seen store folder new) m new.table moved result (sink.got before) (sink.got now) given answer told puts.told;
+        path = stands;
+        holds = subst (λ (t : State). Holds t) (sym moved) (holds_parts s m new.table h laid held_here (subst (λ l. IsLowMark l s.level) (sym low.1) (mark_below s.memory.low low.0 s.level h.level)) zone);
+        causes = record {
+          none_falls = faults;
+          folders = same_folders folder old.paths new.paths path;
+          sink_counts = puts.counts;
+          cause = cause_told Goes store.frugal (faults_in folder old) (faults_in folder new) (sink.sink_faults before) (sink.sink_faults now) (acquired_told name file answer) result (sink.got before) (sink.got now) puts.told puts.cause
+              (acquire_cause name file store.frugal (faults_in folder old) (faults_in folder new) (sink.sink_faults before) (sink.sink_faults now) answer cause memory);
+        };
+        calls = unasked (calls_in folder new ≡ calls_in folder old) name file s (answered_before s.table s.memory table name) given (no_calls (answered_before s.table s.memory table name) same);
+      })
     where
       needed : Bool
       needed = is_none (answered_before s.table s.memory table name)

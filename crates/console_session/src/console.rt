@@ -36,11 +36,7 @@ pub struct Console<M: Store, F: Folder> {
 
 impl<M: Store, F: Folder> Console<M, F> {
     // A console over a store and a table that were just created.
-    pub fn start(
-        store: M,
-        paths: Paths<F>,
-        table: ResTable,
-    ) -> Result<Console<M, F>, AllocError>
+    pub fn start(store: M, paths: Paths<F>, table: ResTable) -> Result<Console<M, F>, AllocError>
         requires new { IsNew (M.state store) }
         requires empty { table ≡ no_resources table.speed }
         ensures state { IfOk result (λ console.

@@ -4,6 +4,7 @@ ghost use Rattle.mem_model.specs.Laid.{Laid};
 ghost use Rattle.console_session.specs.States.{started, IsNew, HasCauses};
 ghost use Rattle.search_paths.specs.Path.{counts_of};
 ghost use Rattle.console_session.specs.Serving.{path_of};
+ghost use Rattle.res_table.specs.Held.{AreHeld};
 ghost use Rattle.res_table.specs.Resources.{no_resources};
 ghost use Rattle.console_session.specs.Sessions.{told_end, is_end};
 ghost use Rattle.console_session.specs.Frames.{finish, line, Runs, NoneAsks};
@@ -54,11 +55,7 @@ impl<M: Store, F: Folder> Session<M, F> {
     ///
     /// The cvars get their defaults. It holds what is handed in and values of fixed size, and takes no memory of its own:
     /// only a store that isn't frugal may refuse, for want of memory, and is dropped then with the path and the table.
-    pub fn start(
-        store: M,
-        paths: Paths<F>,
-        table: ResTable,
-    ) -> Result<Session<M, F>, AllocError>
+    pub fn start(store: M, paths: Paths<F>, table: ResTable) -> Result<Session<M, F>, AllocError>
         requires new { IsNew (M.state store) }
         requires empty { table ≡ no_resources table.speed }
         ensures state { IfOk result (λ session.
@@ -89,6 +86,7 @@ impl<M: Store, F: Folder> Session<M, F> {
         ensures told { Runs (line text.now self.old.state) (told_end result) self.new.state (O.got out.old) (O.got out.new) }
         ensures path { self.new.state.path ≡ self.old.state.path }
         ensures laid { Laid self.new.state.memory }
+        ensures resources { AreHeld self.new.state.path.mounts self.new.state.table self.new.state.memory }
         ensures causes { HasCauses M.frugal self.old.faults self.new.faults
             (O.sink_faults out.old) (O.sink_faults out.new) (told_end result) }
         ensures calls { NoneAsks (line text.now self.old.state) → self.new.calls ≡ self.old.calls }
@@ -106,6 +104,7 @@ impl<M: Store, F: Folder> Session<M, F> {
         ensures told { Runs (finish self.old.state) (told_end result) self.new.state (O.got out.old) (O.got out.new) }
         ensures path { self.new.state.path ≡ self.old.state.path }
         ensures laid { Laid self.new.state.memory }
+        ensures resources { AreHeld self.new.state.path.mounts self.new.state.table self.new.state.memory }
         ensures causes { HasCauses M.frugal self.old.faults self.new.faults
             (O.sink_faults out.old) (O.sink_faults out.new) (told_end result) }
         ensures calls { NoneAsks (finish self.old.state) → self.new.calls ≡ self.old.calls }

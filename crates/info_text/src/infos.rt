@@ -22,7 +22,11 @@ fn number_or_none(number: Option<u32>) -> Piece<'static>
 }
 
 // Puts `sound NAME length L loop P speed S width W`.
-fn info_sound<O: Sink>(name: &GameName, image: &[u8], out: &mut O) -> Result<(), SinkFailed>
+pub(crate) fn info_sound<O: Sink>(
+    name: &GameName,
+    image: &[u8],
+    out: &mut O,
+) -> Result<(), SinkFailed>
     requires { 20 ≤ length image.now }
     ensures { PutsText O.Sink (sound_text name.now (header_in image.now)) out.old out.new result }
 {

@@ -1,8 +1,11 @@
 use super::*;
+use crate::infos::info_sound;
 use base_fields::game_name;
 use outside_io::MemSink;
+use res_table::{Fault, Kind, Res};
 use std::alloc::{AllocError, Global};
 use std::test::Fail;
+use wav_load::WavFault;
 
 // The bytes from 0 on.
 const BYTES: [u8; 64] = [
@@ -106,6 +109,66 @@ fn a_sound_has_its_line(rt: HostRuntime) -> Result<(), Fail> {
         let mut short = MemSink::create(alloc, 30, Vec::new(alloc))?;
         assert!(rt; info_sound(&name, &image, &mut short).is_err());
         assert_eq!(rt; short.got(), &text[..30]);
+    }
+    Ok(())
+}
+
+#[test]
+fn a_resource_has_its_line(rt: HostRuntime) -> Result<(), Fail> {
+    let alloc = rt.alloc();
+    let name = game_name(b"a/x.wav").expect(&rt, "a name");
+    let cases: [(u32, u32, bool, &[u8]); 2] = [
+        (22, 49_208, true, b"sound a/x.wav 22 at 49208 loaded\n"),
+        (
+            4_294_967_295,
+            0,
+            false,
+            b"sound a/x.wav 4294967295 at 0 present\n",
+        ),
+    ];
+    for (size, place, loaded, text) in cases {
+        let res = Res {
+            kind: Kind::Sound,
+            size,
+            place,
+            loaded,
+        };
+        let mut out = MemSink::create(alloc, 100, Vec::new(alloc))?;
+        put_resource(&name, &res, &mut out)?;
+        assert_eq!(rt; out.got(), text);
+    }
+    Ok(())
+}
+
+#[test]
+fn each_fault_has_its_line(rt: HostRuntime) -> Result<(), Fail> {
+    let alloc = rt.alloc();
+    let name = game_name(b"x.wav").expect(&rt, "a name");
+    let cases: [(WavFault, &[u8]); 10] = [
+        (WavFault::NotRiff, b"not riff"),
+        (WavFault::NoFmt, b"no fmt"),
+        (WavFault::NotPcm, b"not pcm"),
+        (WavFault::NotMono, b"not mono"),
+        (WavFault::Width, b"width"),
+        (WavFault::NoData, b"no data"),
+        (WavFault::BadLoop, b"bad loop"),
+        (WavFault::TooLong, b"too long"),
+        (WavFault::Rate { rate: 0 }, b"rate 0"),
+        (
+            WavFault::Rate {
+                rate: 4_294_967_295,
+            },
+            b"rate 4294967295",
+        ),
+    ];
+    for (fault, wrong) in cases {
+        let text = joined(alloc, &[b"bad sound x.wav: ", wrong, b"\n"])?;
+        let mut out = MemSink::create(alloc, 100, Vec::new(alloc))?;
+        put_bad(&name, Fault::Sound(fault), &mut out)?;
+        assert_eq!(rt; out.got(), text.as_slice());
+        let mut short = MemSink::create(alloc, 12, Vec::new(alloc))?;
+        assert!(rt; put_bad(&name, Fault::Sound(fault), &mut short).is_err());
+        assert_eq!(rt; short.got(), &text[..12]);
     }
     Ok(())
 }

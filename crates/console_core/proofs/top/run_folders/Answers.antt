@@ -1,5 +1,5 @@
-use Rattle.std.proofs.Common.{inr}
-use Rattle.std.specs.Prelude.{map}
+use Rattle.std.proofs.Common.{◌≡◌, inr, length, map, ap, arith}
+use Rattle.std.proofs.lemmas.List.{length-map}
 use Rattle.search_paths.specs.Path.{all_some}
 use Rattle.console_core.specs.Ends.{told_state, no_events}
 use Rattle.console_core.proofs.Faulting.{ends_on_path, starts_on_path}
@@ -12,5 +12,13 @@ pub returns-in-Ok-start-clause-ends : goal.returns-in-Ok-start-clause-ends
 returns-in-Ok-start-clause-ends g c =
     let opened = c.in-Ok-mount_all.ensures.opened in
     let session = c.in-Ok-start.session in
-    let starts = starts_on_path g.F.Folder c.args.folders.items c.in-Ok-mount_all.paths c.args.request no_events opened session.state (rw c.in-Ok.ensures.ok at c.in-Ok-start.ensures.state) in
+    let starts = starts_on_path g.F.Folder c.args.folders.items c.in-Ok-mount_all.paths c.args.request no_events opened session.state (rw (c.in-Ok.ensures.ok, c.in-Ok-create.ensures) at c.in-Ok-start.ensures.state) in
     inr (opened.good, ends_on_path c.args.request no_events _ _ (all_some (map g.F.Folder.files c.args.folders.items)) (told_state session.state) c.run_session.result starts c.run_session.ensures.ends)
+
+pub run_session-requires-clause-small : goal.run_session-requires-clause-small
+run_session-requires-clause-small g c =
+    let folders = c.args.folders.items in
+    let held = c.in-Ok-mount_all.paths.folders in
+    let told : length (map g.F.Folder.files held) ≡ length (map g.F.Folder.files folders) = ap length c.in-Ok-mount_all.ensures.opened.told in
+    let counts : length c.in-Ok-start.session.faults ≡ length (map g.F.Folder.folder_faults held) = ap length c.in-Ok-start.ensures.faults in
+    omega (arith, c.requires.small, told, counts, length-map held g.F.Folder.files, length-map folders g.F.Folder.files, length-map held g.F.Folder.folder_faults)
