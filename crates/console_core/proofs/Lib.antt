@@ -2,6 +2,7 @@ pub mod Shortening
 pub mod Scripts
 pub mod Knowing
 pub mod Whole
+pub mod Asking
 pub mod Completing
 pub mod Faulting
 pub mod PathOf

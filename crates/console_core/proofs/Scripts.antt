@@ -230,13 +230,19 @@ ended_run ran rest (FolderFault folder) new start now stops runs = cut_run ran r
 ended_run ran rest WriteFault new start now stops runs = cut_run ran rest fault.Write new start now runs
 ended_run ran rest OutOfMemory new start now stops runs = cut_run ran rest fault.Memory new start now runs
 
+-- the lines of more bytes are behind those so far
+pub later_run : (first : State) (taken more : List ℕ) → run_lines first (lines_of (taken ++ more)).whole ≡ followed (run_lines first (lines_of taken).whole) (λ after. run_lines after (lines_later taken more).0)
+later_run first taken more =
+    let later = lines_later taken more in
+    ap (run_lines first) later.1 ∙ run_append first (lines_of taken).whole later.0
+
 -- so lines that ended a run end it before more bytes too
 pub lines_end : (first new : State) (taken more : List ℕ) (end : StepEnd) (start now : Option (List ℕ)) → (end ≡ Went → ⊥) → Runs (run_lines first (lines_of taken).whole) (told_end end) new start now
     → Runs (run_lines first (lines_of (taken ++ more)).whole) (told_end end) new start now
 lines_end first new taken more end start now stops runs =
-    let later = lines_later taken more in
-    let all : run_lines first (lines_of (taken ++ more)).whole ≡ followed (run_lines first (lines_of taken).whole) (λ after. run_lines after later.0) = ap (run_lines first) later.1 ∙ run_append first (lines_of taken).whole later.0 in
-    subst (λ r. Runs r (told_end end) new start now) (sym all) (ended_run (run_lines first (lines_of taken).whole) (λ after. run_lines after later.0) end new start now stops runs)
+    let later = (lines_later taken more).0 in
+    subst (λ r. Runs r (told_end end) new start now) (sym (later_run first taken more))
+    (ended_run (run_lines first (lines_of taken).whole) (λ after. run_lines after later) end new start now stops runs)
 
 -- the lines of a rest, and then of more bytes
 abbrev pub lines_then : Lines → List ℕ → Lines
@@ -337,17 +343,24 @@ module _ (s : State) (front more : List ℕ) (none : HasNoNewline front) where
       ap (λ (lines : Lines). take 8192 lines.rest) kept_behind ∙ rest_short front (lines_of more).whole (lines_of more).rest
       ∙ sym (ap (λ (lines : Lines). take 8192 lines.rest) (lines_behind front more none))
 
+-- a piece more is its whole lines behind those so far
+pub piece_run : (first : State) (taken piece pending : List ℕ) → pending ≡ take 8192 (lines_of taken).rest
+    → run_lines first (lines_of (taken ++ piece)).whole ≡ followed (run_lines first (lines_of taken).whole) (λ after. run_lines after (lines_of (pending ++ piece)).whole)
+piece_run first taken piece pending is =
+    let rest = (lines_of taken).rest in
+    let more : List (List ℕ) = (lines_of (rest ++ piece)).whole in
+    let ran = run_lines first (lines_of taken).whole in
+    let kept : (s : State) → run_lines s more ≡ run_lines s (lines_of (pending ++ piece)).whole = λ s.
+    sym (ap (λ (p : List ℕ). run_lines s (lines_of (p ++ piece)).whole) is ∙ kept_runs s rest piece (none_in_rest taken)) in
+    ap (λ (l : Lines). run_lines first l.whole) (lines_append taken piece) ∙ run_append first (lines_of taken).whole more
+    ∙ behind_same ran.replies ran.end (λ after. run_lines after more) (λ after. run_lines after (lines_of (pending ++ piece)).whole) kept
+
 -- a piece more was taken, and its whole lines were run
 pub piece_runs : (first s new : State) (taken piece pending : List ℕ) (result : Result Bool Fault) (start mid now : Option (List ℕ)) → Runs (run_lines first (lines_of taken).whole) (Ok false) s start mid → pending ≡ take 8192 (lines_of taken).rest
     → Runs (run_lines s (lines_of (pending ++ piece)).whole) result new mid now → Runs (run_lines first (lines_of (taken ++ piece)).whole) result new start now
 piece_runs first s new taken piece pending result start mid now so_far is runs =
-    let rest = (lines_of taken).rest in
-    let kept : Runs (run_lines s (lines_of (take 8192 rest ++ piece)).whole) result new mid now = subst (λ p. Runs (run_lines s (lines_of (p ++ piece)).whole) result new mid now) is runs in
-    let here : Runs (run_lines s (lines_of (rest ++ piece)).whole) result new mid now = subst (λ r. Runs r result new mid now) (kept_runs s rest piece (none_in_rest taken)) kept in
-    let more : List (List ℕ) = (lines_of (rest ++ piece)).whole in
-    subst (λ ls. Runs (run_lines first ls) result new start now) (sym (ap (λ (l : Lines). l.whole) (lines_append taken piece)))
-    (subst (λ r. Runs r result new start now) (sym (run_append first (lines_of taken).whole more))
-    (both_run (run_lines first (lines_of taken).whole) (λ after. run_lines after more) result s new start mid now so_far here))
+    subst (λ r. Runs r result new start now) (sym (piece_run first taken piece pending is))
+    (both_run (run_lines first (lines_of taken).whole) (λ after. run_lines after (lines_of (pending ++ piece)).whole) result s new start mid now so_far runs)
 
 pub piece_rest : (taken piece pending now : List ℕ) (s : State) → pending ≡ take 8192 (lines_of taken).rest → now ≡ take 8192 (lines_of (pending ++ piece)).rest → now ≡ take 8192 (lines_of (taken ++ piece)).rest
 piece_rest taken piece pending now s is now_is =
@@ -366,12 +379,21 @@ module _ (first s : State) (done pending front : List ℕ) (is : pending ≡ tak
   line_is : lines_of (pending ++ (front ++ 10 ∷ [])) ≡ record { whole = (pending ++ front) ∷ []; rest = [] }
   line_is = line_piece pending front (is_pending done pending is) none
 
+  -- a line more is that line behind those so far
+  pub line_run : run_lines first (lines_of (done ++ (front ++ 10 ∷ []))).whole ≡ followed (run_lines first (lines_of done).whole) (line (pending ++ front))
+  line_run =
+      let ran = run_lines first (lines_of done).whole in
+      let alone : (after : State) → run_lines after (lines_of (pending ++ (front ++ 10 ∷ []))).whole ≡ line (pending ++ front) after = λ after.
+      ap (λ (lines : Lines). run_lines after lines.whole) line_is ∙ nothing_more (line (pending ++ front) after) in
+      piece_run first done (front ++ 10 ∷ []) pending is
+      ∙ behind_same ran.replies ran.end (λ after. run_lines after (lines_of (pending ++ (front ++ 10 ∷ []))).whole) (line (pending ++ front)) alone
+
   -- a line more was run
   pub line_runs : (end : Result Bool Fault) (new : State) (start mid now : Option (List ℕ)) → Runs (run_lines first (lines_of done).whole) (Ok false) s start mid → Runs (line (pending ++ front) s) end new mid now
       → Runs (run_lines first (lines_of (done ++ (front ++ 10 ∷ []))).whole) end new start now
   line_runs end new start mid now so_far runs =
-      let alone : Runs (run_lines s ((pending ++ front) ∷ [])) end new mid now = subst (λ r. Runs r end new mid now) (sym (nothing_more (line (pending ++ front) s))) runs in
-      piece_runs first s new done (front ++ 10 ∷ []) pending end start mid now so_far is (subst (λ (lines : Lines). Runs (run_lines s lines.whole) end new mid now) (sym line_is) alone)
+      subst (λ r. Runs r end new start now) (sym line_run)
+      (both_run (run_lines first (lines_of done).whole) (line (pending ++ front)) end s new start mid now so_far runs)
 
   pub line_rest : [] ≡ take 8192 (lines_of (done ++ (front ++ 10 ∷ []))).rest
   line_rest = piece_rest done (front ++ 10 ∷ []) pending [] s is (sym (ap (λ (lines : Lines). take 8192 lines.rest) line_is))

@@ -5,7 +5,7 @@ use Rattle.outside_io.specs.declared.outside.Sink.{Ghosts as SinkGhosts}
 use Rattle.outside_io.specs.Streams.{Took}
 use Rattle.search_paths.specs.Counts.{NoneFalls}
 use Rattle.console_session.specs.States.{State, CauseOf, HasCauses, StillPut}
-use Rattle.console_session.specs.Frames.{Ran, Runs}
+use Rattle.console_session.specs.Frames.{Ran, Runs, NoneAsks}
 use Rattle.console_session.specs.Sessions.{Seen, told_end}
 use Rattle.console_session.specs.declared.ends.StepEnd.{StepEnd}
 use Rattle.console_session.specs.declared.ends.StepEnd.TheVariants.{Went}
@@ -22,12 +22,18 @@ limit = 1048576
 abbrev pub most_read : ℕ
 most_read = 4096
 
--- What a call runs in a session: what is told of the run, that the path stands, and that each fault has its cause.
+-- where no command of the run asks for a file, no folder was called
+abbrev pub CallsAsAsked : Ran → (calls_before calls_now : List ℕ) → Type 0
+CallsAsAsked run calls_before calls_now = NoneAsks run → calls_now ≡ calls_before
+
+-- What a call runs in a session: what is told of the run, that the path stands, that each fault has its cause, and that no
+-- folder was called where no file was asked for.
 pub record RunsIn {O : Type 0} (frugal : Bool) (sink : SinkGhosts O) (run : Ran) (old new : Seen) (before now : O)
     (end : StepEnd) : Type 0 where
   pub told : Runs run (told_end end) new.state (sink.got before) (sink.got now)
   pub path : new.state.path ≡ old.state.path
   pub causes : HasCauses frugal old.faults new.faults (sink.sink_faults before) (sink.sink_faults now) (told_end end)
+  pub calls : CallsAsAsked run old.calls new.calls
 
 -- Where a line ended the run, it ended in the last piece that was taken: the whole lines of what was taken earlier had been
 -- run before, and did not end it.

@@ -8,4 +8,5 @@ returns-clause-runs g c =
       told = rw c.flush.ensures.same runs.told;
       path = runs.path;
       causes = causes_then _ _ _ _ _ _ _ c.flush.ensures.faults runs.causes;
+      calls = runs.calls;
     }

@@ -1,5 +1,5 @@
-use Rattle.std.proofs.Common.{◌++◌, ap, ◌∙◌, subst}
-use Rattle.console_session.specs.Frames.{Ran, line, Runs}
+use Rattle.std.proofs.Common.{◌++◌, ap, ◌∙◌, sym, subst}
+use Rattle.console_session.specs.Frames.{Ran, line, Runs, NoneAsks}
 use Rattle.console_session.specs.Sessions.{told_end}
 use Rattle.console_core.proofs.Shortening.{line_short}
 use Rattle.console_core.proofs.script.run_pending.Goals as goal
@@ -11,4 +11,5 @@ returns-clause-runs g c =
       told = subst (λ (ran : Ran). Runs ran (told_end c.step-end.result) c.step-end.new.self.state (g.O.Sink.got c.args.out.now) (g.O.Sink.got c.step-end.new.out)) short c.step-end.ensures.told;
       path = c.step-end.ensures.path;
       causes = c.step-end.ensures.causes;
+      calls = λ none. c.step-end.ensures.calls (subst NoneAsks (sym short) none);
     }

@@ -4,6 +4,7 @@ use Rattle.console_session.specs.Sessions.{told_end}
 use Rattle.console_session.proofs.Causing.{counted_none, counted_of, counted_then, causes_later, causes_ok}
 use Rattle.console_core.specs.Runs.{run_lines, lines_of}
 use Rattle.console_core.proofs.Scripts.{start_run, start_rest, lines_end, line_runs, line_rest, left_runs, left_rest}
+use Rattle.console_core.proofs.Asking.{split_calls, line_calls}
 use Rattle.console_core.proofs.script.run_piece.Goals as goal
 
 -- what is behind a line that was run
@@ -18,6 +19,7 @@ newline-init g c = record {
   rest = start_rest c.args.pending.now.items c.requires.short c.requires.pending;
   path = refl;
   going = c.requires.going;
+  calls = λ none. refl;
   counted = counted_none _ _;
 }
 
@@ -39,6 +41,9 @@ returns-in_default-run_pending g c =
             (lines_end first new (inv.done ++ line) c.in-Some.behind.now end start now c.in_default-run_pending.not-Went here);
         path = ran.path ∙ inv.path;
         causes = causes_later _ _ _ _ _ _ _ _ inv.counted ran.causes;
+        calls = split_calls first _ (inv.done ++ line) c.in-Some.behind.now c.args.session.now.calls c.run_pending.new.session.calls
+            (more_is (c.args.pending.now.items ++ c.args.piece.now) inv.done c.newline.left.now line c.in-Some.behind.now inv.split c.in-Some.ensures.is)
+            (line_calls first c.newline.session.state inv.done c.newline.pending.items c.in-Some.front.now inv.rest c.in-Some.ensures.none start (g.O.Sink.got c.newline.out) c.args.session.now.calls c.newline.session.calls c.run_pending.new.session.calls inv.told inv.calls ran.calls);
       };
       rest = λ went. absurd (c.in_default-run_pending.not-Went went);
       ended = c.run_pending.ensures.ended;
@@ -60,6 +65,7 @@ newline-preserved g c =
       rest = c.in-Went.ensures.empty ∙ line_rest first c.newline.session.state inv.done c.newline.pending.items c.in-Some.front.now inv.rest c.in-Some.ensures.none;
       path = ran.path ∙ inv.path;
       going = c.in-Went.ensures.ended;
+      calls = line_calls first c.newline.session.state inv.done c.newline.pending.items c.in-Some.front.now inv.rest c.in-Some.ensures.none start (g.O.Sink.got c.newline.out) c.args.session.now.calls c.newline.session.calls c.run_pending.new.session.calls inv.told inv.calls ran.calls;
       counted = counted_then _ _ _ _ _ _ inv.counted (counted_of _ _ _ _ _ _ ran.causes);
     }
 
@@ -71,6 +77,7 @@ returns-clause-runs g c =
           (left_runs c.args.session.now.state c.newline.session.state inv.done c.newline.pending.items c.newline.left.now inv.rest c.in_default.ensures _ _ inv.told);
       path = inv.path;
       causes = causes_ok _ _ _ _ _ _ inv.counted;
+      calls = split_calls c.args.session.now.state _ inv.done c.newline.left.now c.args.session.now.calls c.newline.session.calls inv.split inv.calls;
     }
 
 pub returns-clause-rest : goal.returns-clause-rest

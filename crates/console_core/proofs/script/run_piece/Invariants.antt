@@ -1,6 +1,7 @@
 use Rattle.std.proofs.Common.{◌≡◌, ◌++◌, ℕ, List, take, length, Ok, false}
 use Rattle.console_session.specs.Frames.{Runs}
 use Rattle.console_core.specs.Runs.{run_lines, lines_of}
+use Rattle.console_core.specs.Reading.{CallsAsAsked}
 use Rattle.console_session.proofs.Causing.{Counted}
 use Rattle.console_core.proofs.script.run_piece.Given as goal
 
@@ -13,6 +14,7 @@ invariant-newline g l =
       rest : l.pending.items ≡ take 8192 (lines_of done).rest;
       path : l.session.state.path ≡ l.initial.session.state.path;
       going : l.session.ended ≡ false;
+      calls : CallsAsAsked (run_lines l.initial.session.state (lines_of done).whole) l.initial.session.calls l.session.calls;
       counted : Counted l.initial.session.faults l.session.faults (g.O.Sink.sink_faults l.initial.out) (g.O.Sink.sink_faults l.out);
     }
 
