@@ -47,15 +47,19 @@ pub record RanEarlier (first : State) (taken : List ℕ) (start now : Option (Li
   pub run : Runs (run_lines first (lines_of earlier).whole) (Ok false) after start mid
   pub more : StillPut mid now
 
--- the whole lines of what was taken were run; of a script that is too long, those of as many bytes as it may have
+-- the run of what was taken: its whole lines, and of a script that is too long those of as many bytes as it may have
+abbrev pub run_taken : (first : State) → (taken : List ℕ) → ReadEnd → Ran
+run_taken first taken TooLong = run_lines first (lines_of (take limit taken)).whole
+run_taken first taken end = run_lines first (lines_of taken).whole
+
+-- that run was done, or a line ended it, by `quit` or by a fault
 abbrev pub RunsTaken : (first : State) → (taken : List ℕ) → ReadEnd → (after : State) → (start now : Option (List ℕ))
     → Type 0
-RunsTaken first taken AtEnd after start now = Runs (run_lines first (lines_of taken).whole) (Ok false) after start now
+RunsTaken first taken AtEnd after start now = Runs (run_taken first taken AtEnd) (Ok false) after start now
 RunsTaken first taken (Ended end) after start now =
-    Runs (run_lines first (lines_of taken).whole) (told_end end) after start now × RanEarlier first taken start now
-RunsTaken first taken Failed after start now = Runs (run_lines first (lines_of taken).whole) (Ok false) after start now
-RunsTaken first taken TooLong after start now =
-    Runs (run_lines first (lines_of (take limit taken)).whole) (Ok false) after start now
+    Runs (run_taken first taken (Ended end)) (told_end end) after start now × RanEarlier first taken start now
+RunsTaken first taken Failed after start now = Runs (run_taken first taken Failed) (Ok false) after start now
+RunsTaken first taken TooLong after start now = Runs (run_taken first taken TooLong) (Ok false) after start now
 
 -- Within the limit all that was taken may be run; a byte past it was taken of a script that is too long. At the end nothing
 -- is left.
@@ -93,10 +97,11 @@ pub record HasReadCauses (frugal : Bool) (faults_before faults_now : List ℕ) (
   pub counts : NoneFell before now
   pub cause : ReadCause frugal faults_before faults_now before now end
 
--- Bytes were taken, and what may be run of them was run.
-pub record HasRead (first after : State) (end : ReadEnd) (pending : List ℕ) (before now : Outside) : Type 0 where
+-- Bytes were taken, and what may be run of them was run; where no command of that asks for a file, no folder was called.
+pub record HasRead (old new : Seen) (end : ReadEnd) (pending : List ℕ) (before now : Outside) : Type 0 where
   pub taken : List ℕ
   pub took : Took taken before.rest now.rest
   pub ends : EndsAt end taken now
   pub keeps : Keeps end taken pending
-  pub run : RunsTaken first taken end after before.got now.got
+  pub run : RunsTaken old.state taken end new.state before.got now.got
+  pub calls : CallsAsAsked (run_taken old.state taken end) old.calls new.calls

@@ -138,6 +138,7 @@ fn read_past<S: Source>(script: &mut S) -> ReadEnd
 }
 
 /// Reads a script, and runs its whole lines as they come. What they put is handed on before the next read.
+/// Where no command of what was run asks for a file, no folder is called.
 pub fn run_script<M: Store, F: Folder, S: Source, O: Sink>(
     session: &mut Session<M, F>,
     script: &mut S,
@@ -146,7 +147,7 @@ pub fn run_script<M: Store, F: Folder, S: Source, O: Sink>(
 ) -> ReadEnd
     requires empty { pending.old.items ≡ [] }
     requires going { session.old.ended ≡ false }
-    ensures read { HasRead session.old.state session.new.state result pending.new.items
+    ensures read { HasRead session.old session.new result pending.new.items
         (outside_of S.Source O.Sink script.old out.old) (outside_of S.Source O.Sink script.new out.new) }
     ensures going { result ≡ ReadEnd.AtEnd → session.new.ended ≡ false }
     ensures path { session.new.state.path ≡ session.old.state.path }

@@ -3,16 +3,16 @@ use Rattle.std.proofs.lemmas.List.{append-nil, take_all, take-append-le}
 use Rattle.outside_io.specs.Streams.{Took, TakesFront}
 use Rattle.outside_io.proofs.Puts.{adds_none}
 use Rattle.outside_io.proofs.Takes.{took_none}
-use Rattle.console_session.specs.States.{State}
 use Rattle.console_session.specs.Frames.{Runs}
 use Rattle.console_core.specs.Runs.{run_lines, lines_of}
 use Rattle.console_core.specs.Outside.{Outside, outside_of}
-use Rattle.console_core.specs.Reading.{limit, most_read, ReadsPast, HasRead}
-use Rattle.console_session.specs.Sessions.{told_end}
+use Rattle.console_core.specs.Reading.{limit, most_read, ReadsPast, HasRead, CallsAsAsked}
+use Rattle.console_session.specs.Sessions.{Seen, told_end}
 use Rattle.console_core.specs.declared.script.ReadEnd.{ReadEnd}
 use Rattle.console_core.specs.declared.script.ReadEnd.TheVariants.{AtEnd, Ended, Failed, TooLong}
 use Rattle.console_session.proofs.Causing.{counted_none, counted_of, counted_then}
 use Rattle.console_core.proofs.Scripts.{is_pending, piece_runs, piece_rest, took_more, goes_still}
+use Rattle.console_core.proofs.Asking.{piece_calls}
 use Rattle.console_core.proofs.script.run_script.Goals as goal
 
 took_piece : (into tail : List ℕ) (count : ℕ) (mid now : Option (List ℕ)) → count ≤ length into → TakesFront mid now count into → Took (take count (into ++ tail)) mid now
@@ -26,20 +26,24 @@ first_of : (taken : List ℕ) (byte : ℕ) → length taken ≡ limit → take l
 first_of taken byte size = take-append-le limit taken (byte ∷ []) (omega (arith, size)) ∙ take_all limit taken (omega (arith, size))
 
 -- what the read past the limit leaves
-past_read : (first after : State) (end : ReadEnd) (taken pending : List ℕ) (before mid now : Outside) → Took taken before.rest mid.rest → length taken ≡ limit → pending ≡ take 8192 (lines_of taken).rest
-    → Runs (run_lines first (lines_of taken).whole) (Ok false) after before.got now.got → ReadsPast end mid.rest now.rest → HasRead first after end pending before now
-past_read first after AtEnd taken pending before mid now so_far size kept run past =
-    record { taken = taken; took = took_nothing taken before.rest mid.rest now.rest so_far past.0; ends = (omega (arith, size), past.1); keeps = kept; run = run }
-past_read first after (Ended end) taken pending before mid now so_far size kept run past = absurd past
-past_read first after Failed taken pending before mid now so_far size kept run past =
-    record { taken = taken; took = took_nothing taken before.rest mid.rest now.rest so_far past; ends = omega (arith, size); keeps = tt; run = run }
-past_read first after TooLong taken pending before mid now so_far size kept run past = record {
-  taken = taken ++ past.0 ∷ [];
-  took = took_more taken (past.0 ∷ []) before.rest mid.rest now.rest so_far past.1;
-  ends = length-append taken (past.0 ∷ []) ∙ ap (λ (n : ℕ). n + 1) size;
-  keeps = tt;
-  run = subst (λ t. Runs (run_lines first (lines_of t).whole) (Ok false) after before.got now.got) (sym (first_of taken past.0 size)) run;
-}
+module _ (old new : Seen) (taken pending : List ℕ) (before mid now : Outside) (so_far : Took taken before.rest mid.rest) (size : length taken ≡ limit) (kept : pending ≡ take 8192 (lines_of taken).rest)
+    (run : Runs (run_lines old.state (lines_of taken).whole) (Ok false) new.state before.got now.got) (calls : CallsAsAsked (run_lines old.state (lines_of taken).whole) old.calls new.calls) where
+  past_read : (end : ReadEnd) → ReadsPast end mid.rest now.rest → HasRead old new end pending before now
+  past_read AtEnd past =
+      record { taken = taken; took = took_nothing taken before.rest mid.rest now.rest so_far past.0; ends = (omega (arith, size), past.1); keeps = kept; run = run; calls = calls }
+  past_read (Ended end) past = absurd past
+  past_read Failed past =
+      record { taken = taken; took = took_nothing taken before.rest mid.rest now.rest so_far past; ends = omega (arith, size); keeps = tt; run = run; calls = calls }
+  past_read TooLong past =
+      let front = sym (first_of taken past.0 size) in
+      record {
+        taken = taken ++ past.0 ∷ [];
+        took = took_more taken (past.0 ∷ []) before.rest mid.rest now.rest so_far past.1;
+        ends = length-append taken (past.0 ∷ []) ∙ ap (λ (n : ℕ). n + 1) size;
+        keeps = tt;
+        run = subst (λ t. Runs (run_lines old.state (lines_of t).whole) (Ok false) new.state before.got now.got) front run;
+        calls = subst (λ t. CallsAsAsked (run_lines old.state (lines_of t).whole) old.calls new.calls) front calls;
+      }
 
 piece_fits : (taken into tail : List ℕ) (count left : ℕ) → length taken + left ≡ limit → count ≤ left → length (taken ++ take count (into ++ tail)) ≤ limit
 piece_fits taken into tail count left size fits = omega (arith, length-append taken (take count (into ++ tail)), length-take count (into ++ tail), size, fits)
@@ -65,6 +69,7 @@ read-init g c = record {
   rest = c.requires.empty;
   going = c.requires.going;
   path = refl;
+  calls = λ none. refl;
   counted = counted_none _ _;
   handed_on = λ none. none;
   script_counts = omega arith;
@@ -103,6 +108,7 @@ returns-in_default-feed-clause-read g c =
               goes_still more_ran.replies more_ran.end (told_end c.feed.result) c.feed.new.session.state _ _ ran;
         },
       );
+      calls = piece_calls first c.read.session.state inv.taken piece c.read.pending.items _ _ c.args.session.now.calls c.read.session.calls c.feed.new.session.calls inv.told inv.rest inv.calls c.feed.ensures.runs.calls;
     }
 
 pub read-preserved : goal.read-preserved
@@ -116,6 +122,7 @@ read-preserved g c =
       rest = piece_rest c.read.invariant.taken piece c.read.pending.items c.feed.new.pending.items c.args.session.now.state c.read.invariant.rest (c.in-Went.ensures.rest refl);
       going = c.in-Went.ensures.ended;
       path = c.in-Went.ensures.runs.path ∙ c.read.invariant.path;
+      calls = piece_calls c.args.session.now.state c.read.session.state c.read.invariant.taken piece c.read.pending.items _ _ c.args.session.now.calls c.read.session.calls c.feed.new.session.calls c.read.invariant.told c.read.invariant.rest c.read.invariant.calls c.in-Went.ensures.runs.calls;
       counted = counted_then _ _ _ _ _ _ c.read.invariant.counted (counted_of _ _ _ _ _ _ c.in-Went.ensures.runs.causes);
       handed_on = λ none. c.in-Went.ensures.handed_on;
       script_counts = omega (arith, c.read.invariant.script_counts, c.in-Ok.ensures.cause.never_falls);
@@ -123,6 +130,6 @@ read-preserved g c =
 
 pub returns-clause-read : goal.returns-clause-read
 returns-clause-read g c =
-    past_read c.args.session.now.state c.read.session.state c.read_past.result c.read.invariant.taken c.read.pending.items
+    past_read c.args.session.now c.read.session c.read.invariant.taken c.read.pending.items
     (outside_of g.S.Source g.O.Sink c.args.script.now c.args.out.now) (outside_of g.S.Source g.O.Sink c.read.script c.read.out) (outside_of g.S.Source g.O.Sink c.read_past.new.script c.read.out)
-    c.read.invariant.took (omega arith) c.read.invariant.rest c.read.invariant.told c.read_past.ensures.past
+    c.read.invariant.took (omega arith) c.read.invariant.rest c.read.invariant.told c.read.invariant.calls c.read_past.result c.read_past.ensures.past
