@@ -171,7 +171,8 @@ answer_report s = says s Goes (report_text s.memory)
 abbrev pub answer_flush : State → Did
 answer_flush s = says (record s { memory = (flush s.memory).after }) Goes []
 
--- why a resource was not acquired; the name of its file is told where that can't be loaded
+-- Why a resource was not acquired; the name of its file is told where that can't be loaded. What is told of acquiring is
+-- neither of the last two.
 abbrev pub refused_text : (name file : List ℕ) → AcquireError → List ℕ
 refused_text name file acquire_error.TableFull = joined (codes "table full\n" ∷ [])
 refused_text name file acquire_error.NotFound = missing_text (codes "not found: ") file
