@@ -1,11 +1,10 @@
 -- What a command does that acquires a resource.
-use Rattle.std.proofs.Common.{◌≡◌, ℕ, ◌<◌, length, List, Bool, true, false, Option, Some, None, IfSome, IfErr, Result, Ok, Err, refl, sym, ◌∙◌, ap, subst, arith, if◌then◌else◌}
-use Rattle.std.specs.Prelude.{IsTrue, IsErrOf, is_none, slice_index}
+use Rattle.std.proofs.Common.{◌≡◌, ℕ, List, Bool, false, Option, Some, None, IfSome, IfErr, Result, Ok, Err, refl, sym, ◌∙◌, ap, subst, if◌then◌else◌}
+use Rattle.std.specs.Prelude.{IsTrue, IsErrOf, is_none}
 use Rattle.std.specs.Bool.{OnFalse}
 use Rattle.base_fields.specs.Names.{is_game_name}
 use Rattle.outside_io.specs.declared.outside.Folder.{Ghosts as FolderGhosts}
 use Rattle.outside_io.specs.declared.outside.Sink.{Ghosts as SinkGhosts}
-use Rattle.mem_model.specs.Blocks.{HunkBlock}
 use Rattle.mem_model.specs.Laid.{Laid}
 use Rattle.mem_model.specs.Memory.{Memory}
 use Rattle.mem_model.specs.declared.store.Store.{Ghosts as StoreGhosts}
@@ -26,14 +25,14 @@ use Rattle.res_table.specs.declared.kinds.Table.{Table}
 use Rattle.console_session.specs.Commands.{acquire_named, acquired_text, answer_acquire, bad_name, with_acquired}
 use Rattle.console_session.specs.Holding.{Holds, IsLowMark}
 use Rattle.console_session.specs.Serving.{seen, path_of, faults_in, calls_in, Does}
-use Rattle.console_session.specs.States.{State, PathSeen, Done, Did, Told, Untold, asks, CauseOf, Follows, HasCauses}
+use Rattle.console_session.specs.States.{State, PathSeen, Done, Told, asks, CauseOf, Follows}
 use Rattle.console_session.specs.Telling.{Tells, Puts, acquired_told}
 use Rattle.console_session.specs.declared.console.Console.{Console}
 use Rattle.console_session.specs.declared.ends.Next.{Next}
 use Rattle.console_session.specs.declared.ends.Next.TheVariants.{Goes}
 use Rattle.console_session.specs.declared.ends.Fault.{Fault}
 use Rattle.console_session.specs.declared.ends.Fault.TheVariants as fault
-use Rattle.console_session.proofs.Following.{IsSaid, follows, still_put, cause_told}
+use Rattle.console_session.proofs.Following.{follows, still_put, cause_told}
 use Rattle.console_session.proofs.Holding.{holds_parts}
 use Rattle.console_session.proofs.Loading.{same_path, same_folders}
 use Rattle.console_session.proofs.Marking.{mark_below}

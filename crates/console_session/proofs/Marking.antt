@@ -8,7 +8,7 @@ use Rattle.std.proofs.lemmas.Bool.Decides.{nat_tests}
 use Rattle.base_fields.specs.Names.{base_of}
 use Rattle.mem_model.specs.Blocks.{HunkBlock}
 use Rattle.mem_model.specs.Memory.{Memory, size_of, room}
-use Rattle.mem_model.specs.Answer.{Answered, Answers, Gives, with_event}
+use Rattle.mem_model.specs.Answer.{Answered, Gives, with_event}
 use Rattle.mem_model.specs.Event.{Event, Shortage}
 use Rattle.mem_model.specs.Places.{hunk_need}
 use Rattle.mem_model.specs.Hunk.{hunk_block, with_low, with_low_bytes, with_bytes, with_bytes_from, with_bytes_above, cut_from, cut_above}

@@ -1,9 +1,8 @@
 -- What the images of each kind have.
 use Rattle.std.proofs.Common.{◌≡◌, ℕ, ◌≤◌, List, length, Result, Ok, Err, ap, refl, arith}
-use Rattle.res_table.specs.declared.answers.Fault.{Fault}
 use Rattle.res_table.specs.declared.kinds.Kind.{Kind}
 use Rattle.res_table.specs.declared.kinds.Kind.TheVariants as kind
-use Rattle.res_table.specs.Images.{IsImage, image_of, sound_image}
+use Rattle.res_table.specs.Images.{IsImage, sound_image}
 use Rattle.wav_load.specs.declared.fault.WavFault.{WavFault}
 use Rattle.wav_load.specs.Images.{image_of as sound_of}
 use Rattle.wav_load.proofs.ImageLaws.{length_of_image}
