@@ -1,0 +1,9 @@
+pub mod Sprites
+pub mod Parts
+pub mod Passing
+pub mod Spelled
+pub mod Views
+pub mod Images
+pub mod Headers
+pub mod Sizes
+pub mod Rows
