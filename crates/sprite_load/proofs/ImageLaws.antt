@@ -83,7 +83,7 @@ image_sized bytes made (Ok r) is e =
     let whole : length bytes ≡ length (spell r.0) + length r.1 = ap length found.0 ∙ length-append (spell r.0) r.1 in
     (omega (arith, n, bounds.0), omega (arith, n, bounds.1, whole))
 
--- the image of a sprite has a frame and a picture, and isn't twice as long as the file
+-- the image of a sprite has a frame and a picture, and is at most twice as long as the file
 pub length_of_image : (bytes made : List ℕ) → image_of bytes ≡ Ok made → (72 ≤ length made) × (length made ≤ 2 * length bytes)
 unfolding image_of
 length_of_image bytes made is = image_sized bytes made (run sprite bytes) refl is
