@@ -1,0 +1,5 @@
+pub mod Models
+pub mod Reading
+pub mod Images
+pub mod Views
+pub mod Sizes

@@ -1,0 +1,45 @@
+-- What is known of the parts of a file that was read.
+use Rattle.std.specs.Prelude.{ℕ, ◌≡◌, ◌+◌, ◌*◌, ◌≤◌, ◌^◌, ◌⊎◌, Bool, true, false, List, length, Ok}
+use Rattle.std.specs.List.{AllByRecursion}
+use Rattle.base_fields.specs.Fields.{u32_in}
+use Rattle.part_plan.specs.Plan.{run}
+use Rattle.alias_load.specs.declared.header.Kind.{Kind}
+use Rattle.alias_load.specs.Models.{Head, Series, Alias}
+use Rattle.alias_load.specs.Reading.{is_single, many, skins_of, frames_of, numskins, numverts, numtris, numframes, all_series, alias}
+use Rattle.alias_load.specs.Images.{count_of}
+
+-- a group has its count, with its bounds, and its intervals
+abbrev pub IsHead : Kind → Head → Type 0
+IsHead kind h =
+    (is_single h ≡ true)
+    ⊎ ((is_single h ≡ false) × (length h.count ≡ 4 + kind.bounds) × (length h.intervals ≡ 4 * u32_in h.count 0))
+
+pub record IsSeries (kind : Kind) (x : Series) : Type 0 where
+  pub head : IsHead kind x.head
+  pub number : length x.items ≡ many x.head
+  pub items : AllByRecursion (λ item. length item ≡ kind.item) x.items
+
+pub record IsAlias (model : Alias) : Type 0 where
+  pub header : length model.header ≡ 84
+  pub skins : AllByRecursion (IsSeries (skins_of model.header)) model.skins
+  pub numskins : length model.skins ≡ numskins model.header
+  pub st_vertices : length model.st_vertices ≡ 12 * numverts model.header
+  pub triangles : length model.triangles ≡ 16 * numtris model.header
+  pub frames : AllByRecursion (IsSeries (frames_of model.header)) model.frames
+  pub numframes : length model.frames ≡ numframes model.header
+
+-- A file's parts, its skins from their first one on and its frames from theirs, and how many pictures and poses it has.
+pub record IsFile (bytes header skins : List ℕ) (pictures : ℕ) (st_vertices triangles frames : List ℕ) (poses : ℕ) : Type 0 where
+  pub model : Alias
+  pub rest : List ℕ
+  pub read : run alias bytes ≡ Ok (model, rest)
+  pub is : IsAlias model
+  pub header_is : model.header ≡ header
+  pub skins_rest : List ℕ
+  pub skins_read : run (all_series (skins_of header) (numskins header)) skins ≡ Ok (model.skins, skins_rest)
+  pub pictures_are : count_of model.skins ≡ pictures
+  pub st_vertices_are : model.st_vertices ≡ st_vertices
+  pub triangles_are : model.triangles ≡ triangles
+  pub frames_rest : List ℕ
+  pub frames_read : run (all_series (frames_of header) (numframes header)) frames ≡ Ok (model.frames, frames_rest)
+  pub poses_are : count_of model.frames ≡ poses
