@@ -1,3 +1,4 @@
 pub mod RowLaws
 pub mod SeriesLaws
 pub mod SpellingLaws
+pub mod FileLaws

@@ -22,6 +22,7 @@
 #![tactic(auto)]
 
 mod fault;
+mod file;
 mod header;
 mod laws;
 mod reading;
