@@ -14,7 +14,8 @@ use Rattle.alias_load.specs.Models.{Series, Alias}
 use Rattle.alias_load.specs.Reading.{is_between, header_tests, all_series, skins_of, frames_of, numskins, skinwidth, skinheight, numverts, numtris, numframes, st_part, triangle_part, body, alias}
 use Rattle.alias_load.specs.Images.{count_of}
 use Rattle.alias_load.specs.Views.{add_count}
-use Rattle.alias_load.specs.Sizes.{IsAlias, IsFile}
+use Rattle.alias_load.specs.Sections.{IsOfPoses}
+use Rattle.alias_load.specs.Sizes.{IsAlias, HasParts}
 use Rattle.alias_load.proofs.SpellingLaws.{model_of, after_triangles, after_st, after_skins, alias_found}
 
 -- ---- the header
@@ -39,7 +40,16 @@ frames_small header none =
     let few = between 1 2000 (numverts header) t.1.1.1.1.0 in
     omega (arith, few)
 
-pub ruleset header_laws = (skins_small, frames_small)
+pub skins_few : (header : List ℕ) → first_fault (header_tests header) ≡ None → numskins header ≤ 2 ^ 16
+skins_few header none = let few = between 1 256 (numskins header) (passes (header_tests header) none).1.0 in omega (arith, few)
+
+pub frames_few : (header : List ℕ) → first_fault (header_tests header) ≡ None → numframes header ≤ 2 ^ 16
+frames_few header none = let few = between 1 1024 (numframes header) (passes (header_tests header) none).1.1.1.1.1.1.0 in omega (arith, few)
+
+pub are_of_poses : (header : List ℕ) → IsOfPoses (frames_of header)
+are_of_poses header = (refl, omega arith)
+
+pub ruleset header_laws = (skins_small, frames_small, skins_few, frames_few, are_of_poses)
 
 -- ---- the parts behind it
 
@@ -127,7 +137,7 @@ frames_fault bytes header skins st triangles frames kind n fault is kind-is n-is
 
 pub file_done : (bytes header skins : List ℕ) (pictures : ℕ) (skins_rest : List ℕ) (c : Counted (skins_of header) (numskins header) skins pictures skins_rest) (st triangles frames : List ℕ)
     (kind : Kind) (n poses : ℕ) (rest : List ℕ) → run alias bytes ≡ run (after_triangles header c.are st triangles) frames → kind ≡ frames_of header → n ≡ numframes header
-    → Ok (poses, rest) ≡ folding add_count 0 (run (all_series kind n) frames) → IsFile bytes header skins pictures st triangles frames poses
+    → Ok (poses, rest) ≡ folding add_count 0 (run (all_series kind n) frames) → HasParts bytes header skins pictures st triangles frames poses
 file_done bytes header skins pictures skins_rest c st triangles frames kind n poses rest is kind-is n-is are =
     let d = counted (frames_of header) (numframes header) frames poses rest
     (subst (λ (m : ℕ). Ok (poses, rest) ≡ folding add_count 0 (run (all_series (frames_of header) m) frames)) n-is (subst (λ (x : Kind). Ok (poses, rest) ≡ folding add_count 0 (run (all_series x n) frames)) kind-is are)) in

@@ -74,7 +74,7 @@ series_parts kind row bytes h middle is =
     one ∙ two ∙ three ∙ then_done (run (items kind (many h)) middle) (made h)
 
 pub series_read : (kind : Kind) (row : ℕ) (bytes : List ℕ) (h : Head) (middle : List ℕ) (n : ℕ) → Ok (h, middle) ≡ run (head kind row) bytes → n ≡ many h
-    → kind.item * n ≤ length middle → Ok (series_in h kind.item n (take (kind.item * n) middle), drop (kind.item * n) middle) ≡ run (series kind row) bytes
+    → kind.item * n ≤ length middle → Ok (series_in kind h n (take (kind.item * n) middle), drop (kind.item * n) middle) ≡ run (series kind row) bytes
 unfolding items
 series_read kind row bytes h middle n is number there =
     let read : run (items kind n) middle ≡ Ok (cut kind.item n middle, drop (kind.item * n) middle) = items_read kind n 0 middle there in
@@ -107,10 +107,10 @@ length-cut (suc n) l bytes = ap suc (length-cut n l (drop l bytes))
 
 -- counting
 pub count_more : (kind : Kind) (s n i : ℕ) (bytes : List ℕ) (h : Head) (k : ℕ) (xs : List ℕ) (rest : List ℕ) (total : Result (ℕ × List ℕ) AliasFault) → i < n
-    → Ok (series_in h kind.item k xs, rest) ≡ run (series kind i) bytes
+    → Ok (series_in kind h k xs, rest) ≡ run (series kind i) bytes
     → folding add_count s (run (each (series kind) (n - i) i) bytes) ≡ total → folding add_count (s + k) (run (each (series kind) (n - (i + 1)) (i + 1)) rest) ≡ total
 count_more kind s n i bytes h k xs rest total lt is so_far =
-    let x = series_in h kind.item k xs in
+    let x = series_in kind h k xs in
     let more = fold_more (series kind) add_count s n i bytes x rest total lt (sym is) so_far in
     subst (λ (m : ℕ). folding add_count (s + m) (run (each (series kind) (n - (i + 1)) (i + 1)) rest) ≡ total) (length-cut k kind.item xs) more
 

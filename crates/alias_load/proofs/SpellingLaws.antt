@@ -83,6 +83,9 @@ series_spells kind row parts value f =
     subst (λ (y : Series). (concat parts ≡ spell_series y) × IsSeries kind y) end.1
     (s.whole ∙ ap (λ (x : List ℕ). x ++ concat s.second) a.0 ∙ ap (λ (x : List ℕ). spell_head h ++ x) tail, is)
 
+pub series_is : (kind : Kind) (row : ℕ) (bytes : List ℕ) (x : Series) (rest : List ℕ) → Ok (x, rest) ≡ run (series kind row) bytes → IsSeries kind x
+series_is kind row bytes x rest is = let r = run_found (series kind row) bytes rest x (sym is) in (series_spells kind row r.0 x r.2).1
+
 st_spells : (n : ℕ) → Spells (λ text. text) (λ text. length text ≡ 12 * n) (st_part n)
 unfolding st_part
 st_spells n [] value f = absurd f

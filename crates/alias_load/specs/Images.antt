@@ -47,21 +47,30 @@ abbrev pub picture_piece : ℕ → Series → List ℕ
 picture_piece first x = concat x.items
 
 -- the vertices of a pose stand behind its bounds and its name
+abbrev pub vertices_in : List (List ℕ) → List ℕ
+vertices_in poses = flat_map (drop 24) poses
+
 abbrev pub vertex_piece : ℕ → Series → List ℕ
-vertex_piece first x = flat_map (drop 24) x.items
+vertex_piece first x = vertices_in x.items
+
+-- the number 2, the header from 8 on, and how many pictures and poses there are
+abbrev pub front_of : List ℕ → ℕ → ℕ → List ℕ
+front_of header pictures poses = u32_bytes 2 ++ (field 76 header 8 ++ (u32_bytes pictures ++ u32_bytes poses))
+
+abbrev pub image_text : List ℕ → ℕ → ℕ → List Series → List ℕ → List ℕ → List Series → List ℕ
+image_text header pictures poses skins st_vertices triangles frames =
+    front_of header pictures poses
+    ++ (pieces skin_row 0 skins
+    ++ (pieces frame_row 0 frames
+    ++ (pieces interval_piece 0 skins
+    ++ (pieces pose_piece 0 frames
+    ++ (st_vertices
+    ++ (triangles ++ (pieces picture_piece 0 skins ++ pieces vertex_piece 0 frames)))))))
 
 unfoldable pub image : Alias → List ℕ
 image model =
-    u32_bytes 2
-    ++ (field 76 model.header 8
-    ++ (u32_bytes (count_of model.skins)
-    ++ (u32_bytes (count_of model.frames)
-    ++ (pieces skin_row 0 model.skins
-    ++ (pieces frame_row 0 model.frames
-    ++ (pieces interval_piece 0 model.skins
-    ++ (pieces pose_piece 0 model.frames
-    ++ (model.st_vertices
-    ++ (model.triangles ++ (pieces picture_piece 0 model.skins ++ pieces vertex_piece 0 model.frames))))))))))
+    image_text model.header (count_of model.skins) (count_of model.frames) model.skins
+    model.st_vertices model.triangles model.frames
 
 -- the image of a file, or its first fault
 unfoldable pub image_of : List ℕ → Result (List ℕ) AliasFault

@@ -3,3 +3,5 @@ pub mod Reading
 pub mod Images
 pub mod Views
 pub mod Sizes
+pub mod Sections
+pub mod Measures

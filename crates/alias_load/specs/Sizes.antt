@@ -1,11 +1,13 @@
 -- What is known of the parts of a file that was read.
-use Rattle.std.specs.Prelude.{ℕ, ◌≡◌, ◌+◌, ◌*◌, ◌≤◌, ◌^◌, ◌⊎◌, Bool, true, false, List, length, Ok}
+use Rattle.std.specs.Prelude.{ℕ, ◌≡◌, ◌+◌, ◌*◌, ◌≤◌, ◌^◌, ◌⊎◌, Bool, true, false, List, length, Option, None, Ok}
 use Rattle.std.specs.List.{AllByRecursion}
+use Rattle.base_fields.specs.Faults.{first_fault}
 use Rattle.base_fields.specs.Fields.{u32_in}
 use Rattle.part_plan.specs.Plan.{run}
 use Rattle.alias_load.specs.declared.header.Kind.{Kind}
+use Rattle.alias_load.specs.declared.file.File.{File}
 use Rattle.alias_load.specs.Models.{Head, Series, Alias}
-use Rattle.alias_load.specs.Reading.{is_single, many, skins_of, frames_of, numskins, numverts, numtris, numframes, all_series, alias}
+use Rattle.alias_load.specs.Reading.{header_tests, is_single, many, skins_of, frames_of, numskins, numverts, numtris, numframes, all_series, alias}
 use Rattle.alias_load.specs.Images.{count_of}
 
 -- a group has its count, with its bounds, and its intervals
@@ -29,7 +31,7 @@ pub record IsAlias (model : Alias) : Type 0 where
   pub numframes : length model.frames ≡ numframes model.header
 
 -- A file's parts, its skins from their first one on and its frames from theirs, and how many pictures and poses it has.
-pub record IsFile (bytes header skins : List ℕ) (pictures : ℕ) (st_vertices triangles frames : List ℕ) (poses : ℕ) : Type 0 where
+pub record HasParts (bytes header skins : List ℕ) (pictures : ℕ) (st_vertices triangles frames : List ℕ) (poses : ℕ) : Type 0 where
   pub model : Alias
   pub rest : List ℕ
   pub read : run alias bytes ≡ Ok (model, rest)
@@ -43,3 +45,16 @@ pub record IsFile (bytes header skins : List ℕ) (pictures : ℕ) (st_vertices 
   pub frames_rest : List ℕ
   pub frames_read : run (all_series (frames_of header) (numframes header)) frames ≡ Ok (model.frames, frames_rest)
   pub poses_are : count_of model.frames ≡ poses
+
+abbrev pub IsFile : List ℕ → File → Type 0
+IsFile bytes file =
+    HasParts bytes file.header.now file.skins.now file.pictures file.st_vertices.now file.triangles.now file.frames.now file.poses
+
+-- The header passed its tests, and the pictures and poses are few.
+pub record IsSound (file : File) : Type 0 where
+  pub long : length file.header.now ≡ 84
+  pub passed : first_fault (header_tests file.header.now) ≡ None
+  pub pictures : file.pictures ≤ 2 ^ 24
+  pub poses : file.poses ≤ 2 ^ 24
+  pub skins_small : length file.skins.now ≤ 2 ^ 26
+  pub frames_small : length file.frames.now ≤ 2 ^ 26

@@ -3,7 +3,7 @@ ghost use Rattle.std.specs.Prelude.{◌≡◌, ◌+◌, ◌*◌, ◌≤◌, ◌^
 ghost use Rattle.base_fields.specs.Faults.{first_fault};
 ghost use Rattle.part_plan.specs.Plan.{run, seen};
 ghost use Rattle.alias_load.specs.Reading.{is_bad_triangle, triangle_tests, header_tests, st_part, triangle_part, body, alias};
-ghost use Rattle.alias_load.specs.Sizes.{IsFile};
+ghost use Rattle.alias_load.specs.Sizes.{IsFile, IsSound};
 
 use crate::fault::{AliasFault, AliasPart};
 use crate::header::{frames_of, header_fault, skins_of};
@@ -105,9 +105,8 @@ fn read_triangles(count: u32, vertices: u32, source: &[u8]) -> Result<(&[u8], &[
 #[tactic(auto, using(crate::proofs::FileLaws::header_laws))]
 pub(crate) fn read_file(source: &[u8]) -> Result<File<'_>, AliasFault>
     requires { length source.now ≤ 2 ^ 26 }
-    ensures { MatchResult result
-        (λ x. IsFile source.now x.header.now x.skins.now x.pictures x.st_vertices.now x.triangles.now x.frames.now x.poses)
-        (λ fault. run alias source.now ≡ Err fault) }
+    ensures is { MatchResult result (IsFile source.now) (λ fault. run alias source.now ≡ Err fault) }
+    ensures sound { IfOk result IsSound }
 {
     let (header, skins) = read_header(source)?;
     let vertices = u32_at(header, 60);

@@ -21,11 +21,14 @@
 //! - the st vertices and the triangles as they stand in the file; all pictures; and the vertices of all poses.
 #![tactic(auto)]
 
+mod builder;
 mod fault;
 mod file;
 mod header;
 mod laws;
 mod reading;
+mod section;
 
+pub use builder::AliasBuilder;
 pub use fault::{AliasFault, AliasField, AliasPart};
 pub use laws::spelled;

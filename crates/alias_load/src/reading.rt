@@ -2,7 +2,8 @@
 ghost use Rattle.std.specs.Prelude.{◌≡◌, ℕ, ◌+◌, ◌*◌, ◌≤◌, ◌^◌, length, Result, IfOk};
 ghost use Rattle.part_plan.specs.Plan.{run, seen, folding};
 ghost use Rattle.alias_load.specs.Reading.{is_wrong, has_wrong, head, many, is_single, series, all_series};
-ghost use Rattle.alias_load.specs.Views.{add_count, series_in};
+ghost use Rattle.alias_load.specs.Sizes.{IsSeries};
+ghost use Rattle.alias_load.specs.Views.{add_count, head_of, series_of};
 
 use crate::fault::AliasFault;
 use crate::header::Kind;
@@ -51,14 +52,11 @@ fn any_wrong(count: u32, intervals: &[u8]) -> bool
 #[tactic(auto, unfolding(crate::specs::Reading::head, crate::specs::Reading::group))]
 fn read_head(kind: Kind, row: u32, source: &[u8]) -> Result<(HeadView<'_>, &[u8]), AliasFault>
     requires { kind.bounds ≤ 8 }
-    ensures value { seen (λ x. (record { word = x.0.word.now; count = x.0.count.now; intervals = x.0.intervals.now }, x.1.now)) result
-        ≡ run (head kind row) source.now }
+    ensures value { seen (λ x. (head_of x.0, x.1.now)) result ≡ run (head kind row) source.now }
     ensures taken { IfOk result (λ x. 4 * x.0.number + length x.1.now ≤ length source.now) }
-    ensures single { IfOk result (λ x. x.0.single
-        ≡ is_single (record { word = x.0.word.now; count = x.0.count.now; intervals = x.0.intervals.now })) }
+    ensures single { IfOk result (λ x. x.0.single ≡ is_single (head_of x.0)) }
     ensures few { IfOk result (λ x. x.0.number ≤ 1024) }
-    ensures number { IfOk result (λ x. x.0.number
-        ≡ many (record { word = x.0.word.now; count = x.0.count.now; intervals = x.0.intervals.now })) }
+    ensures number { IfOk result (λ x. x.0.number ≡ many (head_of x.0)) }
 {
     if source.len() < 4 {
         return Err(AliasFault::Truncated { part: kind.part });
@@ -120,17 +118,12 @@ pub(crate) fn read_series(
 ) -> Result<(SeriesView<'_>, &[u8]), AliasFault>
     requires bounds { kind.bounds ≤ 8 }
     requires small { kind.item ≤ 2 ^ 24 }
-    ensures value { seen (λ x. (
-      series_in (record { word = x.0.head.word.now; count = x.0.head.count.now; intervals = x.0.head.intervals.now })
-          kind.item x.0.head.number x.0.items.now,
-      x.1.now,
-    )) result
-        ≡ run (series kind row) source.now }
+    ensures value { seen (λ x. (series_of kind x.0, x.1.now)) result ≡ run (series kind row) source.now }
     ensures taken { IfOk result (λ x. 4 * x.0.head.number + length x.1.now ≤ length source.now) }
     ensures few { IfOk result (λ x. x.0.head.number ≤ 1024) }
     ensures items { IfOk result (λ x. length x.0.items.now ≡ kind.item * x.0.head.number) }
-    ensures single { IfOk result (λ x. x.0.head.single
-        ≡ is_single (record { word = x.0.head.word.now; count = x.0.head.count.now; intervals = x.0.head.intervals.now })) }
+    ensures single { IfOk result (λ x. x.0.head.single ≡ is_single (head_of x.0.head)) }
+    ensures is { IfOk result (λ x. IsSeries kind (series_of kind x.0)) }
 {
     let (head, rest) = read_head(kind, row, source)?;
     let length = kind.item * head.number as usize;
