@@ -4,7 +4,8 @@ use Rattle.part_plan.specs.Plan.{run}
 use Rattle.alias_load.specs.declared.fault.AliasFault.{AliasFault}
 use Rattle.alias_load.specs.declared.file.File.{File}
 use Rattle.alias_load.specs.declared.section.Section.{Section}
-use Rattle.alias_load.specs.declared.section.Section.TheVariants.{SkinRows, FrameRows, Intervals, PoseRows, Pictures, Vertices}
+use Rattle.alias_load.specs.declared.section.Section.TheVariants.{SkinRows, FrameRows, Intervals}
+use Rattle.alias_load.specs.declared.section.Section.TheVariants.{PoseRows, Pictures, Vertices}
 use Rattle.alias_load.specs.Models.{Series}
 use Rattle.alias_load.specs.Reading.{all_series, skins_of, frames_of, numskins, numframes}
 use Rattle.alias_load.specs.Images.{pieces, image_text}

@@ -1,12 +1,15 @@
 -- The parts of a file in their order, with their tests.
-use Rattle.std.specs.Prelude.{ℕ, zero, suc, ◌+◌, ◌*◌, ◌%◌, ◌^◌, Bool, not, ◌&&◌, nat_lt, nat_le, ◌==◌, if◌then◌else◌, List, [], ◌∷◌}
+use Rattle.std.specs.Prelude.{ℕ, zero, suc, ◌+◌, ◌*◌, ◌%◌, ◌^◌, Bool, not}
+use Rattle.std.specs.Prelude.{◌&&◌, nat_lt, nat_le, ◌==◌, if◌then◌else◌, List, [], ◌∷◌}
 use Rattle.std.specs.List.{list_any, range_with_len}
 use Rattle.base_fields.specs.Fields.{u32_in}
 use Rattle.part_plan.specs.Plan.{Plan, Done, Part, ◌>>=◌, each}
 use Rattle.alias_load.specs.declared.fault.AliasPart.TheVariants.{Skin, St, Triangle as Triangles, Frame}
-use Rattle.alias_load.specs.declared.fault.AliasField.TheVariants.{Numskins, Skinwidth, Skinheight, Numverts, Numtris, Numframes}
+use Rattle.alias_load.specs.declared.fault.AliasField.TheVariants.{Numskins, Skinwidth, Skinheight}
+use Rattle.alias_load.specs.declared.fault.AliasField.TheVariants.{Numverts, Numtris, Numframes}
 use Rattle.alias_load.specs.declared.fault.AliasFault.{AliasFault}
-use Rattle.alias_load.specs.declared.fault.AliasFault.TheVariants.{Short, Version, Header, Truncated, Group, Interval, Triangle}
+use Rattle.alias_load.specs.declared.fault.AliasFault.TheVariants.{Short, Version, Header, Truncated}
+use Rattle.alias_load.specs.declared.fault.AliasFault.TheVariants.{Group, Interval, Triangle}
 use Rattle.alias_load.specs.declared.header.Kind.{Kind}
 use Rattle.alias_load.specs.Models.{Head, Series, Alias}
 
@@ -68,14 +71,22 @@ has_wrong n intervals = list_any (is_wrong intervals) (range_with_len 0 n)
 abbrev pub single : List ℕ → Head
 single word = record { word = word; count = []; intervals = [] }
 
+abbrev pub count_tests : Kind → ℕ → List ℕ → List (Bool × AliasFault)
+count_tests kind row count = (not (is_between 1 1024 (u32_in count 0)), Group kind.part row) ∷ []
+
+abbrev pub interval_tests : Kind → ℕ → ℕ → List ℕ → List (Bool × AliasFault)
+interval_tests kind row n intervals = (has_wrong n intervals, Interval kind.part row) ∷ []
+
 unfoldable pub group : Kind → ℕ → List ℕ → Plan AliasFault Head
 group kind row word =
-    Part (4 + kind.bounds) (Truncated kind.part) (λ count. (not (is_between 1 1024 (u32_in count 0)), Group kind.part row) ∷ []) (λ count.
-    Part (4 * u32_in count 0) (Truncated kind.part) (λ intervals. (has_wrong (u32_in count 0) intervals, Interval kind.part row) ∷ []) (λ intervals.
+    Part (4 + kind.bounds) (Truncated kind.part) (count_tests kind row) (λ count.
+    Part (4 * u32_in count 0) (Truncated kind.part) (interval_tests kind row (u32_in count 0)) (λ intervals.
     Done (record { word = word; count = count; intervals = intervals })))
 
 unfoldable pub head : Kind → ℕ → Plan AliasFault Head
-head kind row = Part 4 (Truncated kind.part) (λ _. []) (λ word. if u32_in word 0 == 0 then Done (single word) else group kind row word)
+head kind row =
+    Part 4 (Truncated kind.part) (λ _. []) (λ word.
+    if u32_in word 0 == 0 then Done (single word) else group kind row word)
 
 -- the word before a single picture or pose is 0
 abbrev pub is_single : Head → Bool

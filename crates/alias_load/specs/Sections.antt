@@ -2,7 +2,8 @@
 use Rattle.std.specs.Prelude.{ℕ, ◌≡◌, ◌+◌, ◌-◌, ◌*◌, ◌≤◌, List, [], ◌++◌, length}
 use Rattle.alias_load.specs.declared.header.Kind.{Kind}
 use Rattle.alias_load.specs.declared.section.Section.{Section}
-use Rattle.alias_load.specs.declared.section.Section.TheVariants.{SkinRows, FrameRows, Intervals, PoseRows, Pictures, Vertices}
+use Rattle.alias_load.specs.declared.section.Section.TheVariants.{SkinRows, FrameRows, Intervals}
+use Rattle.alias_load.specs.declared.section.Section.TheVariants.{PoseRows, Pictures, Vertices}
 use Rattle.alias_load.specs.Models.{Series}
 use Rattle.alias_load.specs.Images.{skin_row, frame_row, interval_piece, pose_piece, picture_piece, vertex_piece}
 

@@ -7,7 +7,8 @@ use Rattle.part_plan.specs.Plan.{run}
 use Rattle.alias_load.specs.declared.header.Kind.{Kind}
 use Rattle.alias_load.specs.declared.file.File.{File}
 use Rattle.alias_load.specs.Models.{Head, Series, Alias}
-use Rattle.alias_load.specs.Reading.{header_tests, is_single, many, skins_of, frames_of, numskins, numverts, numtris, numframes, all_series, alias}
+use Rattle.alias_load.specs.Reading.{header_tests, is_single, many, skins_of, frames_of, numskins}
+use Rattle.alias_load.specs.Reading.{numverts, numtris, numframes, all_series, alias}
 use Rattle.alias_load.specs.Images.{count_of}
 
 -- a group has its count, with its bounds, and its intervals
@@ -31,7 +32,8 @@ pub record IsAlias (model : Alias) : Type 0 where
   pub numframes : length model.frames ≡ numframes model.header
 
 -- A file's parts, its skins from their first one on and its frames from theirs, and how many pictures and poses it has.
-pub record HasParts (bytes header skins : List ℕ) (pictures : ℕ) (st_vertices triangles frames : List ℕ) (poses : ℕ) : Type 0 where
+pub record HasParts (bytes header skins : List ℕ) (pictures : ℕ) (st_vertices triangles frames : List ℕ) (poses : ℕ)
+    : Type 0 where
   pub model : Alias
   pub rest : List ℕ
   pub read : run alias bytes ≡ Ok (model, rest)

@@ -2,7 +2,8 @@
 ghost use Rattle.std.specs.Prelude.{◌≡◌, ◌+◌, ◌*◌, ◌≤◌, ◌^◌, length, Result, Err, IfOk, MatchResult};
 ghost use Rattle.base_fields.specs.Faults.{first_fault};
 ghost use Rattle.part_plan.specs.Plan.{run, seen};
-ghost use Rattle.alias_load.specs.Reading.{is_bad_triangle, triangle_tests, header_tests, st_part, triangle_part, body, alias};
+ghost use Rattle.alias_load.specs.Reading.{is_bad_triangle, triangle_tests, header_tests, st_part};
+ghost use Rattle.alias_load.specs.Reading.{triangle_part, body, alias};
 ghost use Rattle.alias_load.specs.Sizes.{IsFile, IsSound};
 
 use crate::fault::{AliasFault, AliasPart};
@@ -29,7 +30,8 @@ pub(crate) struct File<'a> {
 // The header, and what follows it.
 #[tactic(auto, unfolding(crate::specs::Reading::alias))]
 fn read_header(source: &[u8]) -> Result<(&[u8], &[u8]), AliasFault>
-    ensures value { MatchResult result (λ x. run alias source.now ≡ run (body x.0.now) x.1.now) (λ fault. run alias source.now ≡ Err fault) }
+    ensures value { MatchResult result (λ x. run alias source.now ≡ run (body x.0.now) x.1.now)
+        (λ fault. run alias source.now ≡ Err fault) }
     ensures long { IfOk result (λ x. (length x.0.now ≡ 84) × (length x.1.now ≤ length source.now)) }
     ensures passed { IfOk result (λ x. first_fault (header_tests x.0.now) ≡ None) }
 {

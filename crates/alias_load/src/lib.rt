@@ -28,6 +28,8 @@ mod header;
 mod laws;
 mod reading;
 mod section;
+#[cfg(test)]
+mod tests;
 
 pub use builder::AliasBuilder;
 pub use fault::{AliasFault, AliasField, AliasPart};
