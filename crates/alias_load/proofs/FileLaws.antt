@@ -1,21 +1,21 @@
 -- Reading a whole file.
-use Rattle.std.proofs.Common.{◌≡◌, ℕ, ◌+◌, ◌*◌, ◌^◌, ◌≤◌, Bool, true, false, not, ◌&&◌, nat_le, List, [], ◌∷◌, length, None, Result, Ok, Err, refl, sym, ap, subst, ◌∙◌, arith}
-use Rattle.std.specs.List.{AllByRecursion}
+use Rattle.std.proofs.Common.{◌≡◌, ℕ, ◌+◌, ◌*◌, ◌^◌, ◌≤◌, Bool, false, not, ◌&&◌, List, [], ◌∷◌, length, None, Ok, Err, refl, sym, ap, subst, ◌∙◌, arith}
 use Rattle.std.proofs.lemmas.Bool.Decides.{nat_tests}
 use Rattle.std.proofs.Math.Nat.{mul-le-mul}
 use Rattle.base_fields.specs.Faults.{first_fault}
 use Rattle.base_fields.proofs.FaultLaws.{passes}
-use Rattle.part_plan.specs.Plan.{Plan, Done, ◌>>=◌, run, seen, folded, folding}
-use Rattle.part_plan.proofs.Runs.{◌>>>◌, run-bind}
+use Rattle.part_plan.specs.Plan.{Plan, Done, ◌>>=◌, run, folded, folding}
+use Rattle.part_plan.specs.Checks.{is_between}
+use Rattle.part_plan.proofs.Runs.{run-bind}
 use Rattle.part_plan.proofs.Each.{seen_ok, seen_err}
 use Rattle.alias_load.specs.declared.fault.AliasFault.{AliasFault}
 use Rattle.alias_load.specs.declared.header.Kind.{Kind}
-use Rattle.alias_load.specs.Models.{Series, Alias}
-use Rattle.alias_load.specs.Reading.{is_between, header_tests, all_series, skins_of, frames_of, numskins, skinwidth, skinheight, numverts, numtris, numframes, st_part, triangle_part, body, alias}
+use Rattle.alias_load.specs.Models.{Series}
+use Rattle.alias_load.specs.Reading.{header_tests, all_series, skins_of, frames_of, numskins, skinwidth, skinheight, numverts, numtris, numframes, st_part, triangle_part, body, alias}
 use Rattle.alias_load.specs.Images.{count_of}
 use Rattle.alias_load.specs.Views.{add_count}
 use Rattle.alias_load.specs.Sections.{IsOfPoses}
-use Rattle.alias_load.specs.Sizes.{IsAlias, HasParts}
+use Rattle.alias_load.specs.Sizes.{HasParts}
 use Rattle.alias_load.proofs.SpellingLaws.{model_of, after_triangles, after_st, after_skins, alias_found}
 
 -- ---- the header

@@ -1,5 +1,4 @@
 mod Examples
-pub mod RowLaws
 pub mod SeriesLaws
 pub mod SpellingLaws
 pub mod FileLaws

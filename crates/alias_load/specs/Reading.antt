@@ -1,9 +1,8 @@
 -- The parts of a file in their order, with their tests.
-use Rattle.std.specs.Prelude.{ℕ, zero, suc, ◌+◌, ◌*◌, ◌%◌, ◌^◌, Bool, not}
-use Rattle.std.specs.Prelude.{◌&&◌, nat_lt, nat_le, ◌==◌, if◌then◌else◌, List, [], ◌∷◌}
-use Rattle.std.specs.List.{list_any, range_with_len}
+use Rattle.std.specs.Prelude.{ℕ, ◌+◌, ◌*◌, ◌%◌, Bool, not, ◌&&◌, nat_lt, ◌==◌, if◌then◌else◌, List, [], ◌∷◌}
 use Rattle.base_fields.specs.Fields.{u32_in}
 use Rattle.part_plan.specs.Plan.{Plan, Done, Part, ◌>>=◌, each}
+use Rattle.part_plan.specs.Checks.{is_between, has_wrong, each_row}
 use Rattle.alias_load.specs.declared.fault.AliasPart.TheVariants.{Skin, St, Triangle as Triangles, Frame}
 use Rattle.alias_load.specs.declared.fault.AliasField.TheVariants.{Numskins, Skinwidth, Skinheight}
 use Rattle.alias_load.specs.declared.fault.AliasField.TheVariants.{Numverts, Numtris, Numframes}
@@ -12,9 +11,6 @@ use Rattle.alias_load.specs.declared.fault.AliasFault.TheVariants.{Short, Versio
 use Rattle.alias_load.specs.declared.fault.AliasFault.TheVariants.{Group, Interval, Triangle}
 use Rattle.alias_load.specs.declared.header.Kind.{Kind}
 use Rattle.alias_load.specs.Models.{Head, Series, Alias}
-
-abbrev pub is_between : ℕ → ℕ → ℕ → Bool
-is_between low high n = nat_le low n && nat_le n high
 
 -- ---- the header
 
@@ -56,17 +52,6 @@ skins_of header = record { part = Skin; bounds = 0; item = skinwidth header * sk
 -- a pose has its bounds and its name, and four bytes for each vertex
 abbrev pub frames_of : List ℕ → Kind
 frames_of header = record { part = Frame; bounds = 8; item = 24 + 4 * numverts header }
-
--- more than 0, as a signed number
-abbrev pub is_positive : ℕ → Bool
-is_positive n = nat_lt 0 n && nat_lt n (2 ^ 31)
-
-abbrev pub is_wrong : List ℕ → ℕ → Bool
-is_wrong intervals i = not (is_positive (u32_in intervals (4 * i)))
-
--- one of the first n intervals isn't
-abbrev pub has_wrong : ℕ → List ℕ → Bool
-has_wrong n intervals = list_any (is_wrong intervals) (range_with_len 0 n)
 
 abbrev pub single : List ℕ → Head
 single word = record { word = word; count = []; intervals = [] }
@@ -112,11 +97,6 @@ unfoldable pub all_series : Kind → ℕ → Plan AliasFault (List Series)
 all_series kind n = each (series kind) n 0
 
 -- ---- the triangles
-
--- a test for each of n rows, the first one with this number
-abbrev pub each_row : {F : Type 0} → (ℕ → Bool) → (ℕ → F) → ℕ → ℕ → List (Bool × F)
-each_row is_bad fault row zero = []
-each_row is_bad fault row (suc n) = (is_bad row, fault row) ∷ each_row is_bad fault (row + 1) n
 
 -- a vertex of the triangle isn't one of the n vertices
 abbrev pub is_bad_triangle : ℕ → List ℕ → ℕ → Bool

@@ -71,7 +71,7 @@ fn is_bad(triangles: &[u8], row: u32, vertices: u32) -> bool
 }
 
 // The first triangle with a vertex that isn't there.
-#[tactic(auto, using(crate::proofs::RowLaws::row_laws), unfolding(crate::specs::Reading::triangle_tests))]
+#[tactic(auto, using(part_plan::proofs::CheckLaws::row_laws), unfolding(crate::specs::Reading::triangle_tests))]
 fn first_bad(triangles: &[u8], count: u32, vertices: u32) -> Option<AliasFault>
     requires { 16 * count ≤ length triangles.now }
     ensures { result ≡ first_fault (triangle_tests vertices count triangles.now) }

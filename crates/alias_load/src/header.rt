@@ -1,11 +1,13 @@
 // The header of a file.
 ghost use Rattle.std.specs.Prelude.{◌≡◌, ◌%◌, ◌&&◌, ◌==◌, length};
 ghost use Rattle.base_fields.specs.Faults.{first_fault};
+ghost use Rattle.part_plan.specs.Checks.{is_between};
 ghost use Rattle.alias_load.specs.declared.fault.AliasFault.TheVariants.{Header};
-ghost use Rattle.alias_load.specs.Reading.{is_between, header_tests, skins_of, frames_of};
+ghost use Rattle.alias_load.specs.Reading.{header_tests, skins_of, frames_of};
 
 use crate::fault::{AliasFault, AliasField, AliasPart};
 use base_fields::u32_at;
+use part_plan::is_between;
 
 /// How the skins of a file are laid out, or its frames.
 #[derive(Clone, Copy, Debug)]
@@ -15,12 +17,6 @@ pub(crate) struct Kind {
     pub(crate) bounds: usize,
     // the bytes of a picture, or of a pose
     pub(crate) item: usize,
-}
-
-fn is_between(low: u32, high: u32, number: u32) -> bool
-    ensures { result ≡ is_between low high number }
-{
-    low <= number && number <= high
 }
 
 fn is_width(width: u32) -> bool

@@ -1,13 +1,15 @@
 // Skins and frames, read one behind the other.
-ghost use Rattle.std.specs.Prelude.{◌≡◌, ℕ, ◌+◌, ◌*◌, ◌≤◌, ◌^◌, length, Result, IfOk};
+ghost use Rattle.std.specs.Prelude.{◌≡◌, ◌==◌, ℕ, ◌+◌, ◌*◌, ◌≤◌, ◌^◌, length, false, Result, IfOk};
+ghost use Rattle.base_fields.specs.Fields.{u32_in};
 ghost use Rattle.part_plan.specs.Plan.{run, seen, folding};
-ghost use Rattle.alias_load.specs.Reading.{is_wrong, has_wrong, head, many, is_single, series, all_series};
+ghost use Rattle.alias_load.specs.Reading.{group, head, many, is_single, series, all_series};
 ghost use Rattle.alias_load.specs.Sizes.{IsSeries};
 ghost use Rattle.alias_load.specs.Views.{add_count, head_of, series_of};
 
 use crate::fault::AliasFault;
 use crate::header::Kind;
 use base_fields::u32_at;
+use part_plan::{any_wrong, is_between};
 
 /// A skin's or a frame's word, and a group's count and intervals.
 #[derive(Clone, Copy)]
@@ -28,59 +30,28 @@ pub(crate) struct SeriesView<'a> {
     pub(crate) items: &'a [u8],
 }
 
-fn is_wrong_at(intervals: &[u8], i: usize) -> bool
-    requires { 4 * i + 4 ≤ length intervals.now }
-    ensures { result ≡ is_wrong intervals.now i }
-{
-    let interval = u32_at(intervals, 4 * i);
-    !(interval > 0 && interval < 1 << 31)
-}
-
-#[tactic(auto, using(crate::proofs::RowLaws::interval_laws))]
-fn any_wrong(count: u32, intervals: &[u8]) -> bool
-    requires { length intervals.now ≡ 4 * count }
-    ensures { result ≡ has_wrong count intervals.now }
-{
-    for i in 0..count as usize {
-        if is_wrong_at(intervals, i) {
-            return true;
-        }
-    }
-    false
-}
-
-#[tactic(auto, unfolding(crate::specs::Reading::head, crate::specs::Reading::group))]
-fn read_head(kind: Kind, row: u32, source: &[u8]) -> Result<(HeadView<'_>, &[u8]), AliasFault>
-    requires { kind.bounds ≤ 8 }
-    ensures value { seen (λ x. (head_of x.0, x.1.now)) result ≡ run (head kind row) source.now }
-    ensures taken { IfOk result (λ x. 4 * x.0.number + length x.1.now ≤ length source.now) }
+// What a group has behind its word and before its pictures or poses, and what follows it.
+#[tactic(auto, unfolding(crate::specs::Reading::group))]
+fn read_group<'a>(
+    kind: Kind,
+    row: u32,
+    word: &'a [u8],
+    behind: &'a [u8],
+) -> Result<(HeadView<'a>, &'a [u8]), AliasFault>
+    requires bounds { kind.bounds ≤ 8 }
+    requires group { (u32_in word.now 0 == 0) ≡ false }
+    ensures value { seen (λ x. (head_of x.0, x.1.now)) result ≡ run (group kind row word.now) behind.now }
+    ensures taken { IfOk result (λ x. 4 * x.0.number + length x.1.now ≤ length behind.now) }
     ensures single { IfOk result (λ x. x.0.single ≡ is_single (head_of x.0)) }
     ensures few { IfOk result (λ x. x.0.number ≤ 1024) }
     ensures number { IfOk result (λ x. x.0.number ≡ many (head_of x.0)) }
 {
-    if source.len() < 4 {
+    if behind.len() < 4 + kind.bounds {
         return Err(AliasFault::Truncated { part: kind.part });
     }
-    let (word, rest) = source.split_at(4);
-    if u32_at(word, 0) == 0 {
-        let (single, number) = (true, 1);
-        return Ok((
-            HeadView {
-                word,
-                count: &[],
-                intervals: &[],
-                single,
-                number,
-            },
-            rest,
-        ));
-    }
-    if rest.len() < 4 + kind.bounds {
-        return Err(AliasFault::Truncated { part: kind.part });
-    }
-    let (count, rest) = rest.split_at(4 + kind.bounds);
+    let (count, rest) = behind.split_at(4 + kind.bounds);
     let number = u32_at(count, 0);
-    if !(1 <= number && number <= 1024) {
+    if !is_between(1, 1024, number) {
         return Err(AliasFault::Group {
             part: kind.part,
             row,
@@ -107,6 +78,33 @@ fn read_head(kind: Kind, row: u32, source: &[u8]) -> Result<(HeadView<'_>, &[u8]
         },
         rest,
     ))
+}
+
+// What a skin or a frame has before its pictures or poses, and what follows it.
+#[tactic(auto, unfolding(crate::specs::Reading::head))]
+fn read_head(kind: Kind, row: u32, source: &[u8]) -> Result<(HeadView<'_>, &[u8]), AliasFault>
+    requires { kind.bounds ≤ 8 }
+    ensures value { seen (λ x. (head_of x.0, x.1.now)) result ≡ run (head kind row) source.now }
+    ensures taken { IfOk result (λ x. 4 * x.0.number + length x.1.now ≤ length source.now) }
+    ensures single { IfOk result (λ x. x.0.single ≡ is_single (head_of x.0)) }
+    ensures few { IfOk result (λ x. x.0.number ≤ 1024) }
+    ensures number { IfOk result (λ x. x.0.number ≡ many (head_of x.0)) }
+{
+    if source.len() < 4 {
+        return Err(AliasFault::Truncated { part: kind.part });
+    }
+    let (word, rest) = source.split_at(4);
+    if u32_at(word, 0) != 0 {
+        return read_group(kind, row, word, rest);
+    }
+    let head = HeadView {
+        word,
+        count: &[],
+        intervals: &[],
+        single: true,
+        number: 1,
+    };
+    Ok((head, rest))
 }
 
 /// The next skin or frame, and what follows it.

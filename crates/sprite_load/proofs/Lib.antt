@@ -1,5 +1,4 @@
 mod Examples
-pub mod IntervalLaws
 pub mod FrameLaws
 pub mod SpellingLaws
 pub mod ReadingLaws

@@ -9,12 +9,13 @@ use Rattle.std.proofs.lemmas.List.{append-nil, take_at, drop_at, length-append}
 use Rattle.base_fields.specs.Fields.{u32_in}
 use Rattle.base_fields.specs.Faults.{first_fault}
 use Rattle.part_plan.specs.Plan.{Plan, Done, Part, ◌>>=◌, run, Follows, seen, each}
+use Rattle.part_plan.specs.Checks.{is_between, has_wrong}
 use Rattle.part_plan.proofs.Runs.{◌>>>◌, run-bind, run_again}
 use Rattle.part_plan.proofs.Each.{in_front, each_more}
 use Rattle.sprite_load.specs.declared.fault.SpriteFault.{SpriteFault}
 use Rattle.sprite_load.specs.declared.fault.SpriteFault.TheVariants.{Short, Version, Frames, Group, Interval, Size}
 use Rattle.sprite_load.specs.Sprites.{Picture, Head, Frame, Sprite, spell_picture, spell_head, spell_frame, spell}
-use Rattle.sprite_load.specs.Parts.{has_wrong, is_count, picture, picture_in, pictures, single, group, head, many}
+use Rattle.sprite_load.specs.Parts.{picture, picture_in, pictures, single, group, head, many}
 use Rattle.sprite_load.specs.Parts.{frame, frames, sprite_of, body, sprite}
 use Rattle.sprite_load.specs.Passing.{IsPicture, IsSingle, IsGroup, IsFrame, IsSprite}
 
@@ -60,14 +61,14 @@ picture_tests : (row width height : ℕ) → width ≤ 4096 → height ≤ 4096
     → first_fault ((nat_lt 4096 width, Size row) ∷ (nat_lt 4096 height, Size row) ∷ []) ≡ None
 picture_tests row width height wide high = rw (le-ltb 4096 width wide, le-ltb 4096 height high) refl
 
-is_inside : (n : ℕ) → 1 ≤ n → n ≤ 1024 → not (is_count n) ≡ false
+is_inside : (n : ℕ) → 1 ≤ n → n ≤ 1024 → not (is_between 1 1024 n) ≡ false
 is_inside n least most = grind (arith, nat_tests, least, most)
 
 one_test : (b : Bool) (fault : SpriteFault) → b ≡ false → first_fault ((b, fault) ∷ []) ≡ None
 one_test b fault e = rw e refl
 
 header_tests : (version count : ℕ) → version ≡ 1 → 1 ≤ count → count ≤ 1024
-    → first_fault ((not (version == 1), Version version) ∷ (not (is_count count), Frames) ∷ []) ≡ None
+    → first_fault ((not (version == 1), Version version) ∷ (not (is_between 1 1024 count), Frames) ∷ []) ≡ None
 header_tests version count same least most = rw (same, is_inside count least most) refl
 
 picture_reads : (row : ℕ) (p : Picture) → IsPicture p → Reads (picture row) (spell_picture p) p
@@ -112,7 +113,7 @@ group_reads row h sized is rest =
     let n = u32_in h.count 0 in
     let whole : spell_head h ≡ h.word ++ (h.count ++ (h.intervals ++ [])) =
     ap (λ (t : List ℕ). h.word ++ (h.count ++ t)) (sym (append-nil h.intervals)) in
-    let counted = one_test (not (is_count n)) (Group row) (is_inside n is.least is.most) in
+    let counted = one_test (not (is_between 1 1024 n)) (Group row) (is_inside n is.least is.most) in
     let timed = one_test (has_wrong n h.intervals) (Interval row) is.positive in
     let inner : Follows (group row h.word) (h.count ∷ h.intervals ∷ []) h = (is.count, counted, (is.intervals, timed, refl)) in
     ap (λ (t : List ℕ). run (head row) (t ++ rest)) whole
@@ -155,7 +156,7 @@ pub sprite_reads : (s : Sprite) (rest : List ℕ) → IsSprite s → run sprite 
 unfolding sprite
 sprite_reads s rest is =
     let tests : List ℕ → List (Bool × SpriteFault) =
-    λ header. (not (u32_in header 4 == 1), Version (u32_in header 4)) ∷ (not (is_count (u32_in header 24)), Frames) ∷ [] in
+    λ header. (not (u32_in header 4 == 1), Version (u32_in header 4)) ∷ (not (is_between 1 1024 (u32_in header 24)), Frames) ∷ [] in
     let few : (1 ≤ u32_in s.header 24) × (u32_in s.header 24 ≤ 1024) = (omega (arith, is.least, is.number), omega (arith, is.most, is.number)) in
     let passed = header_tests (u32_in s.header 4) (u32_in s.header 24) is.version few.0 few.1 in
     part_reads 36 Short tests body s.header (flat_map spell_frame s.frames) s is.header passed (body_reads s is) rest

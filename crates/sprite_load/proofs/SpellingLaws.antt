@@ -6,16 +6,16 @@ use Rattle.std.specs.List.{concat, flat_map, AllByRecursion}
 use Rattle.std.proofs.lemmas.List.{append-nil}
 use Rattle.std.proofs.lemmas.Bool.Decides.{nat_tests}
 use Rattle.base_fields.specs.Fields.{u32_in}
-use Rattle.base_fields.specs.Faults.{first_fault}
 use Rattle.base_fields.proofs.FaultLaws.{passes}
 use Rattle.part_plan.specs.Plan.{Plan, Done, ◌>>=◌, run, each, Follows}
+use Rattle.part_plan.specs.Checks.{is_between, has_wrong}
 use Rattle.part_plan.proofs.Runs.{run_found, run_again}
 use Rattle.part_plan.proofs.Each.{each_len}
 use Rattle.part_plan.proofs.Spelled.{follows_split, ends, Spells, each_spells}
 use Rattle.sprite_load.specs.declared.fault.SpriteFault.{SpriteFault}
 use Rattle.sprite_load.specs.declared.fault.SpriteFault.TheVariants.{Version, Frames, Group, Interval, Size}
 use Rattle.sprite_load.specs.Sprites.{Picture, Head, Frame, Sprite, spell_picture, spell_head, spell_frame, spell}
-use Rattle.sprite_load.specs.Parts.{has_wrong, is_count, picture, picture_in, pictures, single, group, head, many}
+use Rattle.sprite_load.specs.Parts.{picture, picture_in, pictures, single, group, head, many}
 use Rattle.sprite_load.specs.Parts.{frame, frames, sprite_of, body, sprite}
 use Rattle.sprite_load.specs.Passing.{IsPicture, IsSingle, IsGroup, IsFrame, IsSprite}
 use Rattle.sprite_load.proofs.FrameLaws.{pictures_len}
@@ -24,7 +24,7 @@ use Rattle.sprite_load.proofs.FrameLaws.{pictures_len}
 not_above : (a b : ℕ) → nat_lt a b ≡ false → b ≤ a
 not_above a b other = grind (arith, nat_tests, other)
 
-count_inside : (n : ℕ) → not (is_count n) ≡ false → (1 ≤ n) × (n ≤ 1024)
+count_inside : (n : ℕ) → not (is_between 1 1024 n) ≡ false → (1 ≤ n) × (n ≤ 1024)
 count_inside n other = (grind (arith, nat_tests, other), grind (arith, nat_tests, other))
 
 same_number : (a b : ℕ) → not (a == b) ≡ false → a ≡ b
@@ -82,7 +82,7 @@ group_spells row word (count ∷ []) value sized other f = absurd f.2
 group_spells row word (count ∷ intervals ∷ []) value sized other f =
     let made : Head = record { word = word; count = count; intervals = intervals } in
     let n = u32_in count 0 in
-    let few = count_inside n (passes ((not (is_count n), Group row) ∷ []) f.1).0 in
+    let few = count_inside n (passes ((not (is_between 1 1024 n), Group row) ∷ []) f.1).0 in
     let good : IsGroup made = record {
       word = other;
       count = f.0;
@@ -157,7 +157,7 @@ unfolding sprite
 sprite_spells [] value f = absurd f
 sprite_spells (header ∷ parts) value f =
     let b = body_spells header parts value f.2 in
-    let t = passes ((not (u32_in header 4 == 1), Version (u32_in header 4)) ∷ (not (is_count (u32_in header 24)), Frames) ∷ []) f.1 in
+    let t = passes ((not (u32_in header 4 == 1), Version (u32_in header 4)) ∷ (not (is_between 1 1024 (u32_in header 24)), Frames) ∷ []) f.1 in
     let few = count_inside (u32_in header 24) t.1.0 in
     let good : IsSprite value = record {
       header = ap length b.kept ∙ f.0;

@@ -1,27 +1,12 @@
 -- The parts of a sprite in the order of the file, with their tests.
-use Rattle.std.specs.Prelude.{ℕ, ◌*◌, ◌^◌, Bool, not, ◌&&◌, nat_lt, nat_le, ◌==◌, if◌then◌else◌, List, [], ◌∷◌}
-use Rattle.std.specs.List.{list_any, range_with_len}
+use Rattle.std.specs.Prelude.{ℕ, ◌*◌, Bool, not, nat_lt, ◌==◌, if◌then◌else◌, List, [], ◌∷◌}
 use Rattle.base_fields.specs.Fields.{u32_in}
 use Rattle.part_plan.specs.Plan.{Plan, Done, Part, ◌>>=◌, each}
+use Rattle.part_plan.specs.Checks.{is_between, has_wrong}
 use Rattle.sprite_load.specs.declared.fault.SpriteFault.{SpriteFault}
 use Rattle.sprite_load.specs.declared.fault.SpriteFault.TheVariants.{Short, Version, Frames, Truncated, Group}
 use Rattle.sprite_load.specs.declared.fault.SpriteFault.TheVariants.{Interval, Size}
 use Rattle.sprite_load.specs.Sprites.{Picture, Head, Frame, Sprite}
-
--- above 0, as a signed number
-abbrev pub is_positive : ℕ → Bool
-is_positive n = nat_lt 0 n && nat_lt n (2 ^ 31)
-
--- interval i, and whether one of the first n isn't above 0
-abbrev pub is_wrong : List ℕ → ℕ → Bool
-is_wrong intervals i = not (is_positive (u32_in intervals (4 * i)))
-
-abbrev pub has_wrong : ℕ → List ℕ → Bool
-has_wrong n intervals = list_any (is_wrong intervals) (range_with_len 0 n)
-
--- a count of frames, or of the pictures of a group
-abbrev pub is_count : ℕ → Bool
-is_count n = nat_le 1 n && nat_le n 1024
 
 -- too wide, or too high
 abbrev pub is_large : ℕ → Bool
@@ -39,7 +24,7 @@ single word = record { word = word; count = []; intervals = [] }
 
 unfoldable pub group : ℕ → List ℕ → Plan SpriteFault Head
 group row word =
-    Part 4 Truncated (λ count. (not (is_count (u32_in count 0)), Group row) ∷ []) (λ count.
+    Part 4 Truncated (λ count. (not (is_between 1 1024 (u32_in count 0)), Group row) ∷ []) (λ count.
     Part (4 * u32_in count 0) Truncated (λ times. (has_wrong (u32_in count 0) times, Interval row) ∷ []) (λ times.
     Done (record { word = word; count = count; intervals = times })))
 
@@ -81,5 +66,5 @@ body header = frames (u32_in header 24) >>= λ fs. Done (sprite_of header fs)
 unfoldable pub sprite : Plan SpriteFault Sprite
 sprite =
     Part 36 Short (λ header.
-    (not (u32_in header 4 == 1), Version (u32_in header 4)) ∷ (not (is_count (u32_in header 24)), Frames) ∷ [])
+    (not (u32_in header 4 == 1), Version (u32_in header 4)) ∷ (not (is_between 1 1024 (u32_in header 24)), Frames) ∷ [])
     body

@@ -1,9 +1,10 @@
 -- What passes its tests, as each record says it.
-use Rattle.std.specs.Prelude.{◌≡◌, ℕ, ◌*◌, ◌≤◌, ◌⊎◌, true, false, ◌==◌, List, [], length}
+use Rattle.std.specs.Prelude.{◌≡◌, ◌*◌, ◌≤◌, ◌⊎◌, true, false, ◌==◌, [], length}
 use Rattle.std.specs.List.{AllByRecursion}
 use Rattle.base_fields.specs.Fields.{u32_in}
+use Rattle.part_plan.specs.Checks.{has_wrong}
 use Rattle.sprite_load.specs.Sprites.{Picture, Head, Frame, Sprite}
-use Rattle.sprite_load.specs.Parts.{has_wrong, many}
+use Rattle.sprite_load.specs.Parts.{many}
 
 pub record IsPicture (p : Picture) : Type 0 where
   pub head : length p.head ≡ 16

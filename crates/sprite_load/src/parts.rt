@@ -2,12 +2,13 @@
 ghost use Rattle.std.specs.Prelude.{◌≡◌, ◌==◌, ℕ, ◌+◌, ◌*◌, ◌≤◌, length, false, Result, IfOk, MatchResult};
 ghost use Rattle.base_fields.specs.Fields.{u32_in};
 ghost use Rattle.part_plan.specs.Plan.{run, seen};
-ghost use Rattle.sprite_load.specs.Parts.{is_wrong, has_wrong, picture, head, group, many, is_single};
+ghost use Rattle.sprite_load.specs.Parts.{picture, head, group, many, is_single};
 ghost use Rattle.sprite_load.specs.Sizes.{IsWhole};
 ghost use Rattle.sprite_load.specs.Views.{picture_of, head_of, HasHeader, HasFault};
 
 use crate::fault::SpriteFault;
 use base_fields::u32_at;
+use part_plan::{any_wrong, is_between};
 
 // The widest and the highest picture, and the most frames of a sprite and pictures of a group.
 const LARGEST: u32 = 4096;
@@ -59,28 +60,6 @@ pub(crate) fn read_picture(row: u32, source: &[u8]) -> Result<(PictureView<'_>, 
     Ok((PictureView { head, pixels }, rest))
 }
 
-// Whether interval `i` isn't above 0.
-fn is_wrong_at(intervals: &[u8], i: usize) -> bool
-    requires { 4 * i + 4 ≤ length intervals.now }
-    ensures { result ≡ is_wrong intervals.now i }
-{
-    let interval = u32_at(intervals, 4 * i);
-    !(interval > 0 && interval < 1 << 31)
-}
-
-#[tactic(auto, using(crate::proofs::IntervalLaws::wrong_laws))]
-fn any_wrong(count: u32, intervals: &[u8]) -> bool
-    requires { length intervals.now ≡ 4 * count }
-    ensures { result ≡ has_wrong count intervals.now }
-{
-    for i in 0..count as usize {
-        if is_wrong_at(intervals, i) {
-            return true;
-        }
-    }
-    false
-}
-
 // What a group has behind its word and before its pictures, and what follows it.
 #[tactic(auto, unfolding(crate::specs::Parts::group))]
 fn read_group<'a>(
@@ -101,7 +80,7 @@ fn read_group<'a>(
     }
     let (count, rest) = behind.split_at(4);
     let number = u32_at(count, 0);
-    if !(1 <= number && number <= MOST) {
+    if !is_between(1, MOST, number) {
         return Err(SpriteFault::Group { row });
     }
     let length = 4 * number as usize;
@@ -167,7 +146,7 @@ pub(crate) fn read_header(source: &[u8]) -> Result<(&[u8], &[u8]), SpriteFault>
         return Err(SpriteFault::Version { found: version });
     }
     let count = u32_at(header, 24);
-    if !(1 <= count && count <= MOST) {
+    if !is_between(1, MOST, count) {
         return Err(SpriteFault::Frames);
     }
     Ok((header, rest))

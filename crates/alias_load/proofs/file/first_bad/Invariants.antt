@@ -1,7 +1,8 @@
 use Rattle.std.proofs.Common.{◌≡◌, ◌-◌}
 use Rattle.base_fields.specs.Faults.{first_fault}
+use Rattle.part_plan.specs.Checks.{each_row}
 use Rattle.alias_load.specs.declared.fault.AliasFault.TheVariants.{Triangle}
-use Rattle.alias_load.specs.Reading.{each_row, is_bad_triangle, triangle_tests}
+use Rattle.alias_load.specs.Reading.{is_bad_triangle, triangle_tests}
 use Rattle.alias_load.proofs.file.first_bad.Given as goal
 
 abbrev pub invariant-loop-row : goal.invariant-loop-row

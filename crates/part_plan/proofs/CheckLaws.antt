@@ -1,8 +1,8 @@
 -- Tests of one row after the other.
-use Rattle.std.proofs.Common.{◌≡◌, ℕ, suc, ◌+◌, ◌-◌, ◌≤◌, ◌<◌, Bool, true, false, List, [], ◌∷◌, Option, Some, None, refl, sym, ◌∙◌, arith}
+use Rattle.std.proofs.Common.{◌≡◌, ℕ, suc, ◌+◌, ◌-◌, ◌≤◌, ◌<◌, Bool, true, false, Option, Some, None, refl, sym, ◌∙◌, arith}
 use Rattle.std.specs.List.{list_any, range_with_len}
 use Rattle.base_fields.specs.Faults.{first_fault}
-use Rattle.alias_load.specs.Reading.{each_row}
+use Rattle.part_plan.specs.Checks.{each_row}
 
 -- whether one of n numbers passes a test, from the number j on
 pub wrong_more : (p : ℕ → Bool) (n j : ℕ) (total : Bool) → j < n → p j ≡ false
