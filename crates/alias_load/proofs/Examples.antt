@@ -1,5 +1,5 @@
 -- Worked examples.
-use Rattle.std.proofs.Common.{◌≡◌, ℕ, List, [], ◌∷◌, ◌++◌, Ok, Err, codes, replicate, refl}
+use Rattle.std.proofs.Common.{◌≡◌, ℕ, List, ◌∷◌, ◌++◌, Ok, Err, codes, replicate, refl}
 use Rattle.base_fields.specs.Fields.{u32_in, u32_bytes}
 use Rattle.part_plan.specs.Plan.{each}
 use Rattle.alias_load.specs.declared.fault.AliasPart.TheVariants.{Frame}

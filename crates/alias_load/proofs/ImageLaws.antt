@@ -1,7 +1,6 @@
 -- How long the image of an alias model is.
-use Rattle.std.proofs.Common.{◌≡◌, ℕ, ◌+◌, ◌*◌, ◌-◌, ◌≤◌, List, ◌++◌, length, take, drop, Result, Ok, Err, refl, sym, ap, subst, ◌∙◌, arith}
+use Rattle.std.proofs.Common.{◌≡◌, ℕ, ◌+◌, List, ◌++◌, length, drop, Result, Ok, Err, refl, sym, ap, subst, ◌∙◌, arith}
 use Rattle.std.specs.Prelude.{IfOk, IsOkAnd}
-use Rattle.std.specs.List.{AllByRecursion}
 use Rattle.std.proofs.lemmas.List.{length-append, length-take, length-drop}
 use Rattle.base_fields.specs.Fields.{field, u32_bytes}
 use Rattle.mem_model.specs.Images.{image_size}
@@ -11,10 +10,10 @@ use Rattle.alias_load.specs.declared.file.File.{File}
 use Rattle.alias_load.specs.declared.section.Section.{Section}
 use Rattle.alias_load.specs.declared.section.Section.TheVariants.{SkinRows, FrameRows, Intervals, PoseRows, Pictures, Vertices}
 use Rattle.alias_load.specs.Models.{Series, Alias}
-use Rattle.alias_load.specs.Reading.{all_series, skins_of, frames_of, numskins, numframes, alias}
+use Rattle.alias_load.specs.Reading.{skins_of, frames_of, numskins, numframes, alias}
 use Rattle.alias_load.specs.Images.{count_of, pieces, skin_row, frame_row, interval_piece, pose_piece, picture_piece, vertex_piece, front_of, image_text, image, image_of}
-use Rattle.alias_load.specs.Sizes.{IsAlias, IsFile, IsSound}
-use Rattle.alias_load.specs.Sections.{IsOfPoses, Suits, piece_of, fixed, per_item, bytes_of}
+use Rattle.alias_load.specs.Sizes.{IsAlias, IsFile}
+use Rattle.alias_load.specs.Sections.{Suits, piece_of, bytes_of}
 use Rattle.alias_load.specs.Measures.{skins_bytes, frames_bytes, skins_in, frames_in, IsMeasured, length_of, text_of}
 use Rattle.alias_load.proofs.PieceLaws.{length-pieces}
 

@@ -1,8 +1,8 @@
 -- The pieces of skins and frames, and how long they are.
 use Rattle.std.proofs.Common.{◌≡◌, ℕ, zero, suc, ◌+◌, ◌-◌, ◌*◌, ◌^◌, ◌≤◌, ◌<◌, Bool, true, false, cond, List, [], ◌∷◌, ◌++◌, length, take, drop, Result, Ok, Err, refl, sym, ap, subst, ◌∙◌, append_assoc, arith, inl, inr}
 use Rattle.std.specs.Prelude.{IfOk, IsOkAnd}
-use Rattle.std.specs.List.{concat, flat_map, AllByRecursion}
-use Rattle.std.proofs.lemmas.List.{append-nil, take-append-drop, length-append, length-take, length-drop, take-take}
+use Rattle.std.specs.List.{concat, AllByRecursion}
+use Rattle.std.proofs.lemmas.List.{append-nil, take-append-drop, length-append, length-take, length-drop}
 use Rattle.std.proofs.Math.Nat.{mul-le-mul}
 use Rattle.base_fields.specs.Fields.{u32_in, u32_bytes, field}
 use Rattle.part_plan.specs.Plan.{run, each, folded, folding}
@@ -13,10 +13,10 @@ use Rattle.alias_load.specs.declared.header.Kind.{Kind}
 use Rattle.alias_load.specs.declared.section.Section.{Section}
 use Rattle.alias_load.specs.declared.section.Section.TheVariants.{SkinRows, FrameRows, Intervals, PoseRows, Pictures, Vertices}
 use Rattle.alias_load.specs.Models.{Head, Series}
-use Rattle.alias_load.specs.Reading.{is_single, many, series, all_series}
+use Rattle.alias_load.specs.Reading.{is_single, series}
 use Rattle.alias_load.specs.Images.{count_of, pieces, skin_row, bounds_of, intervals_of, pose_rows, vertices_in}
 use Rattle.alias_load.specs.Views.{cut, series_in}
-use Rattle.alias_load.specs.Sizes.{IsHead, IsSeries}
+use Rattle.alias_load.specs.Sizes.{IsSeries}
 use Rattle.alias_load.specs.Sections.{piece_of, fixed, per_item, bytes_of, IsOfPoses, Suits, Texts, no_texts, add_piece}
 use Rattle.alias_load.proofs.SeriesLaws.{length-cut}
 

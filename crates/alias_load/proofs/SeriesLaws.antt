@@ -1,15 +1,15 @@
 -- Reading skins and frames.
-use Rattle.std.proofs.Common.{◌≡◌, ℕ, zero, suc, ◌+◌, ◌-◌, ◌*◌, ◌≤◌, ◌<◌, Bool, true, false, ltb, List, [], ◌∷◌, length, take, drop, Result, Ok, Err, refl, sym, ap, subst, ◌∙◌, arith}
+use Rattle.std.proofs.Common.{◌≡◌, ℕ, zero, suc, ◌+◌, ◌-◌, ◌*◌, ◌≤◌, ◌<◌, Bool, true, false, ltb, List, ◌∷◌, length, take, drop, Result, Ok, Err, refl, sym, ap, subst, ◌∙◌, arith}
 use Rattle.std.proofs.lemmas.Bool.{ltb-true, ltb-false, lt-ltb, le-ltb}
-use Rattle.std.proofs.lemmas.List.{length-take, length-drop, take-take, drop-drop, drop-take}
-use Rattle.part_plan.specs.Plan.{Plan, Done, ◌>>=◌, run, each, seen, folded, folding, viewed}
+use Rattle.std.proofs.lemmas.List.{length-drop, take-take, drop-drop, drop-take}
+use Rattle.part_plan.specs.Plan.{Plan, Done, ◌>>=◌, run, each, seen, folding, viewed}
 use Rattle.part_plan.proofs.Runs.{◌>>>◌, run-bind}
-use Rattle.part_plan.proofs.Each.{then_done, seen_ok, seen_err, each_more, each_fail, fold_more, fold_fail, fold_done}
+use Rattle.part_plan.proofs.Each.{then_done, each_more, each_fail, fold_more, fold_fail, fold_done}
 use Rattle.alias_load.specs.declared.fault.AliasFault.{AliasFault}
 use Rattle.alias_load.specs.declared.fault.AliasFault.TheVariants.{Truncated}
 use Rattle.alias_load.specs.declared.header.Kind.{Kind}
 use Rattle.alias_load.specs.Models.{Head, Series}
-use Rattle.alias_load.specs.Reading.{head, many, item, items, series, all_series}
+use Rattle.alias_load.specs.Reading.{head, many, item, items, series}
 use Rattle.alias_load.specs.Views.{cut, series_in, add_count}
 
 item_read : (kind : Kind) (i : ℕ) (bytes : List ℕ) → kind.item ≤ length bytes → run (item kind i) bytes ≡ Ok (take kind.item bytes, drop kind.item bytes)

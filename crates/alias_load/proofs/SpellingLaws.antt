@@ -1,7 +1,7 @@
 -- What is read of a file is spelled so.
-use Rattle.std.proofs.Common.{◌≡◌, ℕ, ◌+◌, ◌*◌, Bool, true, false, cond, List, [], ◌∷◌, ◌++◌, length, Ok, refl, sym, ap, subst, ◌∙◌, ◌⊎◌, inl, inr}
+use Rattle.std.proofs.Common.{◌≡◌, ℕ, ◌*◌, Bool, true, false, cond, List, [], ◌∷◌, ◌++◌, length, Ok, refl, sym, ap, subst, ◌∙◌, ◌⊎◌, inl, inr}
 use Rattle.std.specs.Prelude.{◌==◌}
-use Rattle.std.specs.List.{concat, flat_map, AllByRecursion}
+use Rattle.std.specs.List.{concat, flat_map}
 use Rattle.std.proofs.lemmas.List.{append-nil}
 use Rattle.base_fields.specs.Fields.{u32_in}
 use Rattle.part_plan.specs.Plan.{Plan, Done, ◌>>=◌, run, each, Follows}
@@ -11,7 +11,7 @@ use Rattle.part_plan.proofs.Spelled.{follows_split, ends, Spells, each_spells}
 use Rattle.alias_load.specs.declared.fault.AliasFault.{AliasFault}
 use Rattle.alias_load.specs.declared.header.Kind.{Kind}
 use Rattle.alias_load.specs.Models.{Head, Series, Alias, spell_head, spell_series, spell}
-use Rattle.alias_load.specs.Reading.{single, group, head, is_single, many, item, items, series, all_series, skins_of, frames_of, numskins, numverts, numtris, numframes, st_part, triangle_part, triangle_tests, body, alias}
+use Rattle.alias_load.specs.Reading.{single, group, head, many, item, items, series, all_series, skins_of, frames_of, numskins, numverts, numtris, numframes, st_part, triangle_part, body, alias}
 use Rattle.alias_load.specs.Sizes.{IsHead, IsSeries, IsAlias}
 
 -- one of two plans was followed

@@ -1,5 +1,5 @@
 -- The image of an alias model.
-use Rattle.std.specs.Prelude.{ℕ, ◌+◌, if◌then◌else◌, List, [], ◌∷◌, ◌++◌, length, take, drop, Result}
+use Rattle.std.specs.Prelude.{ℕ, ◌+◌, if◌then◌else◌, List, [], ◌∷◌, ◌++◌, length, drop, Result}
 use Rattle.std.specs.List.{concat, flat_map}
 use Rattle.base_fields.specs.Fields.{field, u32_bytes}
 use Rattle.part_plan.specs.Plan.{run, seen}

@@ -1,5 +1,5 @@
 -- What is known of the parts of a file that was read.
-use Rattle.std.specs.Prelude.{ℕ, ◌≡◌, ◌+◌, ◌*◌, ◌≤◌, ◌^◌, ◌⊎◌, Bool, true, false, List, length, Option, None, Ok}
+use Rattle.std.specs.Prelude.{ℕ, ◌≡◌, ◌+◌, ◌*◌, ◌≤◌, ◌^◌, ◌⊎◌, true, false, List, length, None, Ok}
 use Rattle.std.specs.List.{AllByRecursion}
 use Rattle.base_fields.specs.Faults.{first_fault}
 use Rattle.base_fields.specs.Fields.{u32_in}

@@ -1,9 +1,8 @@
 -- Worked examples.
-use Rattle.std.proofs.Common.{◌≡◌, ℕ, List, [], ◌∷◌, ◌++◌, Ok, Err, codes, length, replicate, refl}
+use Rattle.std.proofs.Common.{◌≡◌, ℕ, List, [], ◌∷◌, ◌++◌, Ok, Err, codes, replicate, refl}
 use Rattle.base_fields.specs.Fields.{u32_in, u32_bytes}
 use Rattle.part_plan.specs.Plan.{each}
 use Rattle.mem_model.specs.Images.{image_size}
-use Rattle.sprite_load.specs.declared.fault.SpriteFault.{SpriteFault}
 use Rattle.sprite_load.specs.declared.fault.SpriteFault.TheVariants.{Short, Version, Frames, Truncated, Group, Interval, Size}
 use Rattle.sprite_load.specs.Parts.{picture, group, head, picture_in, pictures, frame, frames, body, sprite}
 use Rattle.sprite_load.specs.Images.{image, image_of}

@@ -1,5 +1,5 @@
 -- How long the image of a sprite is, and how many pictures it has.
-use Rattle.std.proofs.Common.{◌≡◌, ℕ, ◌+◌, ◌*◌, ◌≤◌, List, [], ◌∷◌, ◌++◌, length, Result, Ok, Err, refl, sym, ap, subst}
+use Rattle.std.proofs.Common.{◌≡◌, ℕ, ◌+◌, ◌*◌, ◌≤◌, List, [], ◌∷◌, ◌++◌, length, Result, Ok, Err, refl, ap}
 use Rattle.std.proofs.Common.{◌∙◌, inl, inr, arith}
 use Rattle.std.specs.List.{flat_map, AllByRecursion}
 use Rattle.std.proofs.lemmas.List.{length-append}
@@ -8,9 +8,9 @@ use Rattle.part_plan.specs.Plan.{run, seen, folded}
 use Rattle.sprite_load.specs.declared.fault.SpriteFault.{SpriteFault}
 use Rattle.sprite_load.specs.declared.sizes.Sizes.{Sizes}
 use Rattle.sprite_load.specs.Sprites.{Picture, Frame, Sprite, spell_picture, spell_head, spell_frame, spell}
-use Rattle.sprite_load.specs.Parts.{many, sprite}
+use Rattle.sprite_load.specs.Parts.{sprite}
 use Rattle.sprite_load.specs.Images.{picture_pixels, image, image_of}
-use Rattle.sprite_load.specs.Sizes.{add_pixels, add_frame, no_sizes, sizes_of}
+use Rattle.sprite_load.specs.Sizes.{add_pixels, add_frame, no_sizes}
 use Rattle.sprite_load.specs.Passing.{IsPicture, IsFrame, IsSprite}
 use Rattle.sprite_load.proofs.SpellingLaws.{sprite_found}
 use Rattle.sprite_load.proofs.LengthLaws.{image_len}

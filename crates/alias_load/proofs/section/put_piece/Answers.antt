@@ -1,5 +1,5 @@
-use Rattle.std.proofs.Common.{◌≡◌, List, ℕ, ◌++◌, ap, ◌∙◌}
-use Rattle.alias_load.specs.Images.{skin_row, bounds_of}
+use Rattle.std.proofs.Common.{List, ℕ, ◌++◌, ap, ◌∙◌}
+use Rattle.alias_load.specs.Images.{skin_row}
 use Rattle.alias_load.specs.Views.{head_of, series_of}
 use Rattle.alias_load.proofs.PieceLaws.{row_is}
 use Rattle.alias_load.proofs.section.put_piece.Goals as goal
