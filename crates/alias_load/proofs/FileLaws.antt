@@ -16,12 +16,9 @@ use Rattle.alias_load.specs.Images.{count_of}
 use Rattle.alias_load.specs.Views.{add_count}
 use Rattle.alias_load.specs.Sections.{IsOfPoses}
 use Rattle.alias_load.specs.Sizes.{HasParts}
-use Rattle.alias_load.proofs.SpellingLaws.{model_of, after_triangles, after_st, after_skins, alias_found}
+use Rattle.alias_load.proofs.SpellingLaws.{between, model_of, after_triangles, after_st, after_skins, alias_found}
 
 -- ---- the header
-
-between : (low high n : ℕ) → not (is_between low high n) ≡ false → n ≤ high
-between low high n is = grind (arith, nat_tests, is)
 
 between_and : (low high n : ℕ) (b : Bool) → not (is_between low high n && b) ≡ false → n ≤ high
 between_and low high n b is = grind (arith, nat_tests, is)
@@ -40,11 +37,17 @@ frames_small header none =
     let few = between 1 2000 (numverts header) t.1.1.1.1.0 in
     omega (arith, few)
 
+pub most_skins : (header : List ℕ) → first_fault (header_tests header) ≡ None → numskins header ≤ 256
+most_skins header none = between 1 256 (numskins header) (passes (header_tests header) none).1.0
+
+pub most_frames : (header : List ℕ) → first_fault (header_tests header) ≡ None → numframes header ≤ 1024
+most_frames header none = between 1 1024 (numframes header) (passes (header_tests header) none).1.1.1.1.1.1.0
+
 pub skins_few : (header : List ℕ) → first_fault (header_tests header) ≡ None → numskins header ≤ 2 ^ 16
-skins_few header none = let few = between 1 256 (numskins header) (passes (header_tests header) none).1.0 in omega (arith, few)
+skins_few header none = omega (arith, most_skins header none)
 
 pub frames_few : (header : List ℕ) → first_fault (header_tests header) ≡ None → numframes header ≤ 2 ^ 16
-frames_few header none = let few = between 1 1024 (numframes header) (passes (header_tests header) none).1.1.1.1.1.1.0 in omega (arith, few)
+frames_few header none = omega (arith, most_frames header none)
 
 pub are_of_poses : (header : List ℕ) → IsOfPoses (frames_of header)
 are_of_poses header = (refl, omega arith)

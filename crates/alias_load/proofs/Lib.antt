@@ -5,3 +5,4 @@ pub mod FileLaws
 pub mod PoseLaws
 pub mod PieceLaws
 pub mod ImageLaws
+pub mod HeaderLaws

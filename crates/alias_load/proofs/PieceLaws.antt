@@ -1,7 +1,7 @@
 -- The pieces of skins and frames, and how long they are.
 use Rattle.std.proofs.Common.{◌≡◌, ℕ, zero, suc, ◌+◌, ◌-◌, ◌*◌, ◌^◌, ◌≤◌, ◌<◌, Bool, true, false, cond, List, [], ◌∷◌, ◌++◌, length, take, drop, Result, Ok, Err, refl, sym, ap, subst, ◌∙◌, append_assoc, arith, inl, inr}
 use Rattle.std.specs.Prelude.{IfOk, IsOkAnd}
-use Rattle.std.specs.List.{concat, AllByRecursion}
+use Rattle.std.specs.List.{concat, flat_map, AllByRecursion}
 use Rattle.std.proofs.lemmas.List.{append-nil, take-append-drop, length-append, length-take, length-drop}
 use Rattle.std.proofs.Math.Nat.{mul-le-mul}
 use Rattle.base_fields.specs.Fields.{u32_in, u32_bytes, field}
@@ -12,7 +12,7 @@ use Rattle.alias_load.specs.declared.fault.AliasFault.{AliasFault}
 use Rattle.alias_load.specs.declared.header.Kind.{Kind}
 use Rattle.alias_load.specs.declared.section.Section.{Section}
 use Rattle.alias_load.specs.declared.section.Section.TheVariants.{SkinRows, FrameRows, Intervals, PoseRows, Pictures, Vertices}
-use Rattle.alias_load.specs.Models.{Head, Series}
+use Rattle.alias_load.specs.Models.{Head, Series, spell_head, spell_series}
 use Rattle.alias_load.specs.Reading.{is_single, series}
 use Rattle.alias_load.specs.Images.{count_of, pieces, skin_row, bounds_of, intervals_of, pose_rows, vertices_in}
 use Rattle.alias_load.specs.Views.{cut, series_in}
@@ -92,6 +92,36 @@ length-pieces section kind first (x ∷ xs) suits all =
     let one = length-piece section kind first x suits all.0 in
     let others = length-pieces section kind (first + length x.items) xs suits all.1 in
     length-append (piece_of section first x) (pieces (piece_of section) (first + length x.items) xs) ∙ omega (arith, one, others)
+
+-- there are no more than 1024 pictures or poses for each skin or frame
+series_few : (kind : Kind) (x : Series) → IsSeries kind x → length x.items ≤ 1024
+series_few kind x is =
+    elim is.head [
+      | inl one ↦ omega (arith, single_number kind x is one)
+      | inr g ↦ omega (arith, g.3, group_number kind x is g.0)
+    ]
+
+pub count_few : (kind : Kind) (xs : List Series) → AllByRecursion (IsSeries kind) xs → count_of xs ≤ 1024 * length xs
+count_few kind [] all = omega arith
+count_few kind (x ∷ xs) all = omega (arith, series_few kind x all.0, count_few kind xs all.1)
+
+-- the bytes of skins or frames in the file
+series_spelled : (kind : Kind) (x : Series) → IsSeries kind x → 4 * length x.items + kind.item * length x.items ≤ 4 + length (spell_series x)
+series_spelled kind x is =
+    let whole : length (spell_series x) ≡ length (spell_head x.head) + length (concat x.items) = length-append (spell_head x.head) (concat x.items) in
+    let items = length-items kind.item x.items is.items in
+    let head : length (spell_head x.head) ≡ length x.head.word + length (x.head.count ++ x.head.intervals) = length-append x.head.word (x.head.count ++ x.head.intervals) in
+    elim is.head [
+      | inl one ↦ omega (arith, whole, items, single_number kind x is one)
+      | inr g ↦ omega (arith, whole, items, head, length-append x.head.count x.head.intervals, g.2, group_number kind x is g.0)
+    ]
+
+pub all_spelled : (kind : Kind) (xs : List Series) → AllByRecursion (IsSeries kind) xs
+    → 4 * count_of xs + kind.item * count_of xs ≤ 4 * length xs + length (flat_map spell_series xs)
+all_spelled kind [] all = omega arith
+all_spelled kind (x ∷ xs) all =
+    let whole : length (flat_map spell_series (x ∷ xs)) ≡ length (spell_series x) + length (flat_map spell_series xs) = length-append (spell_series x) (flat_map spell_series xs) in
+    omega (arith, whole, series_spelled kind x all.0, all_spelled kind xs all.1)
 
 few_items : (k n : ℕ) → k ≤ 2 ^ 24 → n ≤ 2 ^ 24 → k * n ≤ 2 ^ 48
 few_items k n few less = let most : k * n ≤ 2 ^ 24 * 2 ^ 24 = mul-le-mul few less in omega (arith, most)

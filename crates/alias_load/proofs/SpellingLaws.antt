@@ -1,18 +1,26 @@
 -- What is read of a file is spelled so.
-use Rattle.std.proofs.Common.{◌≡◌, ℕ, ◌*◌, Bool, true, false, cond, List, [], ◌∷◌, ◌++◌, length, Ok, refl, sym, ap, subst, ◌∙◌, ◌⊎◌, inl, inr}
+use Rattle.std.proofs.Common.{◌≡◌, ℕ, ◌*◌, ◌≤◌, Bool, true, false, not, cond, List, [], ◌∷◌, ◌++◌, length, None, Ok, refl, sym, ap, subst, ◌∙◌, ◌⊎◌, inl, inr, arith}
 use Rattle.std.specs.Prelude.{◌==◌}
 use Rattle.std.specs.List.{concat, flat_map}
+use Rattle.std.proofs.lemmas.Bool.Decides.{nat_tests}
 use Rattle.std.proofs.lemmas.List.{append-nil}
+use Rattle.base_fields.specs.Faults.{first_fault}
 use Rattle.base_fields.specs.Fields.{u32_in}
+use Rattle.base_fields.proofs.FaultLaws.{passes}
 use Rattle.part_plan.specs.Plan.{Plan, Done, ◌>>=◌, run, each, Follows}
+use Rattle.part_plan.specs.Checks.{is_between}
 use Rattle.part_plan.proofs.Runs.{run_found, run_again}
 use Rattle.part_plan.proofs.Each.{each_len}
 use Rattle.part_plan.proofs.Spelled.{follows_split, ends, Spells, each_spells}
 use Rattle.alias_load.specs.declared.fault.AliasFault.{AliasFault}
 use Rattle.alias_load.specs.declared.header.Kind.{Kind}
 use Rattle.alias_load.specs.Models.{Head, Series, Alias, spell_head, spell_series, spell}
-use Rattle.alias_load.specs.Reading.{single, group, head, many, item, items, series, all_series, skins_of, frames_of, numskins, numverts, numtris, numframes, st_part, triangle_part, body, alias}
+use Rattle.alias_load.specs.Reading.{header_tests, single, count_tests, group, head, many, item, items, series, all_series, skins_of, frames_of, numskins, numverts, numtris, numframes, st_part, triangle_part, body, alias}
 use Rattle.alias_load.specs.Sizes.{IsHead, IsSeries, IsAlias}
+
+-- a number that passes is no higher than the highest
+pub between : (low high n : ℕ) → not (is_between low high n) ≡ false → n ≤ high
+between low high n is = grind (arith, nat_tests, is)
 
 -- one of two plans was followed
 chosen : {A : Type 0} (b : Bool) (p q : Plan AliasFault A) (parts : List (List ℕ)) (value : A) → Follows (cond b p q) parts value
@@ -32,8 +40,9 @@ unfolding group
 group_spells kind row word [] value is f = absurd f
 group_spells kind row word (count ∷ []) value is f = absurd f.2
 group_spells kind row word (count ∷ intervals ∷ []) value is f =
+    let few = between 1 1024 (u32_in count 0) (passes (count_tests kind row count) f.1).0 in
     subst (λ (h : Head). (word ++ (count ++ (intervals ++ [])) ≡ spell_head h) × IsHead kind h) f.2.2
-    (ap (λ (x : List ℕ). word ++ (count ++ x)) (append-nil intervals), inr (is, f.0, f.2.0))
+    (ap (λ (x : List ℕ). word ++ (count ++ x)) (append-nil intervals), inr (is, f.0, f.2.0, few))
 group_spells kind row word (count ∷ intervals ∷ x ∷ parts) value is f = absurd f.2.2
 
 head_spells : (kind : Kind) (row : ℕ) → Spells spell_head (IsHead kind) (head kind row)
@@ -113,9 +122,10 @@ after_st header skins st = triangle_part (numverts header) (numtris header) >>= 
 abbrev pub after_skins : List ℕ → List Series → Plan AliasFault Alias
 after_skins header skins = st_part (numverts header) >>= after_st header skins
 
-body_spells : (header : List ℕ) (parts : List (List ℕ)) (value : Alias) → length header ≡ 84 → Follows (body header) parts value → (header ++ concat parts ≡ spell value) × IsAlias value
+body_spells : (header : List ℕ) (parts : List (List ℕ)) (value : Alias) → length header ≡ 84 → first_fault (header_tests header) ≡ None → Follows (body header) parts value
+    → (header ++ concat parts ≡ spell value) × IsAlias value
 unfolding body all_series
-body_spells header parts value long f =
+body_spells header parts value long passed f =
     let sk = skins_of header in
     let fr = frames_of header in
     let s = follows_split (all_series sk (numskins header)) (after_skins header) parts value f in
@@ -135,6 +145,7 @@ body_spells header parts value long f =
     = s.whole ∙ ap (λ (x : List ℕ). x ++ concat s.second) a.0 ∙ ap (λ (x : List ℕ). flat_map spell_series s.between ++ x) two in
     let is : IsAlias model = record {
       header = long;
+      passed = passed;
       skins = a.1;
       numskins = follows_len (series sk) (numskins header) s.first s.between s.firsts;
       st_vertices = b.1;
@@ -147,7 +158,7 @@ body_spells header parts value long f =
 pub alias_spells : Spells spell IsAlias alias
 unfolding alias
 alias_spells [] value f = absurd f
-alias_spells (header ∷ parts) value f = body_spells header parts value f.0 f.2
+alias_spells (header ∷ parts) value f = body_spells header parts value f.0 f.1 f.2
 
 -- What is read is spelled so, by parts that pass their tests.
 pub alias_found : (bytes rest : List ℕ) (model : Alias) → run alias bytes ≡ Ok (model, rest) → (bytes ≡ spell model ++ rest) × IsAlias model

@@ -5,3 +5,4 @@ pub mod Views
 pub mod Sizes
 pub mod Sections
 pub mod Measures
+pub mod Headers

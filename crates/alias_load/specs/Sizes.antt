@@ -11,11 +11,12 @@ use Rattle.alias_load.specs.Reading.{header_tests, is_single, many, skins_of, fr
 use Rattle.alias_load.specs.Reading.{numverts, numtris, numframes, all_series, alias}
 use Rattle.alias_load.specs.Images.{count_of}
 
--- a group has its count, with its bounds, and its intervals
+-- a group has its count, with its bounds, and its intervals; it has no more than 1024 pictures or poses
 abbrev pub IsHead : Kind → Head → Type 0
 IsHead kind h =
     (is_single h ≡ true)
-    ⊎ ((is_single h ≡ false) × (length h.count ≡ 4 + kind.bounds) × (length h.intervals ≡ 4 * u32_in h.count 0))
+    ⊎ ((is_single h ≡ false) × (length h.count ≡ 4 + kind.bounds) × (length h.intervals ≡ 4 * u32_in h.count 0)
+    × (u32_in h.count 0 ≤ 1024))
 
 pub record IsSeries (kind : Kind) (x : Series) : Type 0 where
   pub head : IsHead kind x.head
@@ -24,6 +25,7 @@ pub record IsSeries (kind : Kind) (x : Series) : Type 0 where
 
 pub record IsAlias (model : Alias) : Type 0 where
   pub header : length model.header ≡ 84
+  pub passed : first_fault (header_tests model.header) ≡ None
   pub skins : AllByRecursion (IsSeries (skins_of model.header)) model.skins
   pub numskins : length model.skins ≡ numskins model.header
   pub st_vertices : length model.st_vertices ≡ 12 * numverts model.header
@@ -50,7 +52,8 @@ pub record HasParts (bytes header skins : List ℕ) (pictures : ℕ) (st_vertice
 
 abbrev pub IsFile : List ℕ → File → Type 0
 IsFile bytes file =
-    HasParts bytes file.header.now file.skins.now file.pictures file.st_vertices.now file.triangles.now file.frames.now file.poses
+    HasParts bytes file.header.now file.skins.now file.pictures file.st_vertices.now file.triangles.now file.frames.now
+    file.poses
 
 -- The header passed its tests, and the pictures and poses are few.
 pub record IsSound (file : File) : Type 0 where

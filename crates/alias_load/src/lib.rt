@@ -25,6 +25,7 @@ mod builder;
 mod fault;
 mod file;
 mod header;
+mod image_header;
 mod laws;
 mod reading;
 mod section;
@@ -33,4 +34,5 @@ mod tests;
 
 pub use builder::AliasBuilder;
 pub use fault::{AliasFault, AliasField, AliasPart};
+pub use image_header::{AliasHeader, alias_header};
 pub use laws::spelled;

@@ -274,3 +274,26 @@ fn makes_images(rt: HostRuntime) {
         assert_eq!(rt; at, image.len());
     }
 }
+
+// A single picture, and a group of two.
+#[test]
+fn tells_of_an_image(rt: HostRuntime) {
+    let group: &[u32] = &[1, 2, 7, 8, 0x0403_0201, 0x0807_0605];
+    let parts = [HEADER, SKIN, group, ST, TRIANGLE, FRAMES];
+    let file = file(rt.alloc(), &parts, 12, 2).expect(&rt, "memory");
+    let image = image(rt.alloc(), &file)
+        .expect(&rt, "memory")
+        .expect(&rt, "an image");
+    assert!(rt; image.len() >= 88);
+    let header = AliasHeader {
+        skins: 2,
+        width: 4,
+        height: 1,
+        vertices: 1,
+        triangles: 1,
+        frames: 1,
+        pictures: 3,
+        poses: 1,
+    };
+    assert_eq!(rt; alias_header(&image), header);
+}
