@@ -5,7 +5,8 @@ ghost use Rattle.alias_load.specs.Reading.{skins_of};
 ghost use Rattle.alias_load.specs.Images.{pieces, front_of, image_of};
 ghost use Rattle.alias_load.specs.Sizes.{IsSound};
 ghost use Rattle.alias_load.specs.Sections.{Suits, piece_of};
-ghost use Rattle.alias_load.specs.Measures.{IsMeasured, skins_bytes, frames_bytes, length_of, skins_in, frames_in, text_of};
+ghost use Rattle.alias_load.specs.Measures.{IsMeasured, skins_bytes, frames_bytes, length_of};
+ghost use Rattle.alias_load.specs.Measures.{skins_in, frames_in, text_of};
 
 use crate::fault::AliasFault;
 use crate::file::{File, read_file};

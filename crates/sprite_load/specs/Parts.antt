@@ -15,7 +15,8 @@ is_large n = nat_lt 4096 n
 -- a picture of the frame in this row
 unfoldable pub picture : ℕ → Plan SpriteFault Picture
 picture row =
-    Part 16 Truncated (λ head. (is_large (u32_in head 8), Size row) ∷ (is_large (u32_in head 12), Size row) ∷ []) (λ head.
+    Part 16 Truncated (λ head.
+    (is_large (u32_in head 8), Size row) ∷ (is_large (u32_in head 12), Size row) ∷ []) (λ head.
     Part (u32_in head 8 * u32_in head 12) Truncated (λ _. []) (λ pixels.
     Done (record { head = head; pixels = pixels })))
 

@@ -1,7 +1,7 @@
 // Why bytes are no sprite.
 
-/// Why a file is refused as a sprite. The header is tested first, and then the frames in the order of the file; the first
-/// test that fails counts. Frames are numbered from 0.
+/// Why a file is refused as a sprite. The header is tested first, and then the frames in the order of the file; the
+/// first test that fails counts. Frames are numbered from 0.
 #[derive(Clone, Copy, Debug, PartialEq, Eq)]
 pub enum SpriteFault {
     /// The file has fewer than 36 bytes.

@@ -73,7 +73,8 @@ fn put_pictures(block: &mut [u8], count: u32, row: u32, intervals: &[u8], from: 
     requires sized { length block.old ≡ 24 * count }
     requires whole { IsWhole intervals.now count }
     requires near { from + length source.now < 2 ^ 32 }
-    ensures { IfOk (run (pictures count row) source.now) (λ a. block.new ≡ picture_rows from (timed intervals.now a.0)) }
+    ensures { IfOk (run (pictures count row) source.now)
+        (λ a. block.new ≡ picture_rows from (timed intervals.now a.0)) }
 {
     let mut pixels_at = from;
     let mut rest = source;
