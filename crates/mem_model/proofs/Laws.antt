@@ -40,6 +40,15 @@ low-low_alloc m size place name =
       | false ↦ λ h. (low-with_event (with_low m (hunk_block (hunk_need size) name)) _, cc)
     ]
 
+-- A refused allocation leaves it.
+pub low-low_refused : (m : Memory) (size : ℕ) (short : Shortage) (name : List ℕ) → (low_alloc m size name).answer ≡ Err short → (low_alloc m size name).after.low ≡ m.low
+unfolding low_alloc low_given
+low-low_refused m size short name =
+    elim (ltb (room m) (hunk_need size)) as (λ small. (low_given m size name small).answer ≡ Err short → (noted (low_given m size name small) (LowAlloc size)).after.low ≡ m.low) [
+      | true ↦ λ h. low-with_event m _
+      | false ↦ λ h. absurd (cc)
+    ]
+
 -- An allocation adds a block or leaves the list.
 low-low_alloc_cases : (m : Memory) (size : ℕ) (name : List ℕ) →
     ((low_alloc m size name).after.low ≡ m.low) ⊎ ((low_alloc m size name).after.low ≡ m.low ++ hunk_block (hunk_need size) name ∷ [])
@@ -173,7 +182,7 @@ new_written_above [] b place bytes p e = absurd p
 new_written_above (zone ∷ blocks) b place bytes p e = ap (λ xs. zone ∷ xs) (new_written_from zone.size blocks b place bytes p.1 e)
 
 -- the low list after an allocation and a write into the new block
-low-new_written : (m : Memory) (size place : ℕ) (name bytes : List ℕ) → Laid m → (low_alloc m size name).answer ≡ Ok place →
+pub low-new_written : (m : Memory) (size place : ℕ) (name bytes : List ℕ) → Laid m → (low_alloc m size name).answer ≡ Ok place →
     (with_low_bytes (low_alloc m size name).after place bytes).low ≡ m.low ++ with_bytes (hunk_block (hunk_need size) name) bytes ∷ []
 unfolding with_low_bytes
 low-new_written m size place name bytes laid h =
@@ -293,6 +302,15 @@ pub low_bytes-built : {F : Type 0} (m : Memory) (place len : ℕ) (image_of : Li
 unfolding build_low
 low_bytes-built m place len image_of old image here made fits =
     rw made (low_bytes-over m place image ∙ ap (option_map (λ bytes. over bytes image)) here ∙ ap Some (over_front old image fits))
+
+-- What is built in a new block leaves the blocks that there were.
+pub low-new_built : {F : Type 0} (m : Memory) (size place len : ℕ) (name : List ℕ) (image_of : List ℕ → Result (List ℕ) F) → Laid m → (low_alloc m size name).answer ≡ Ok place →
+    (above : List HunkBlock) × ((build_low (low_alloc m size name).after place len image_of).after.low ≡ m.low ++ above)
+unfolding build_low
+low-new_built m size place len name image_of laid h =
+    let given : Memory = (low_alloc m size name).after in
+    after_image (λ (n : Memory). (above : List HunkBlock) × (n.low ≡ m.low ++ above)) given (with_low_bytes given place) (image_of (front_of (temp_bytes given) len))
+    (_, (low-low_alloc m size place name h).0) (λ image. (_, low-new_written m size place name image laid h))
 
 pub front-over : (block : Option (List ℕ)) (bytes : List ℕ) → HasBytes block (length bytes) → front_of (option_map (λ old. over old bytes) block) (length bytes) ≡ bytes
 front-over None bytes h = absurd h
