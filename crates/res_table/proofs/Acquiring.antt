@@ -1,7 +1,8 @@
 -- What is acquired.
-use Rattle.std.proofs.Common.{◌≡◌, ℕ, ◌+◌, ◌<◌, true, List, length, Option, Some, None, Result, Ok, Err, refl, sym, ap, subst, ◌∙◌, arith, inl, inr}
-use Rattle.std.specs.Prelude.{slice_get, option_map, option_and_then, unwrap_or, IfSome, is_none, bytes_eq}
+use Rattle.std.proofs.Common.{◌≡◌, ℕ, ◌+◌, ◌<◌, ◌≤◌, Bool, cond, true, false, List, length, Option, Some, None, Result, Ok, Err, refl, sym, ap, subst, ◌∙◌, arith, inl, inr}
+use Rattle.std.specs.Prelude.{nat_lt, slice_get, option_map, option_and_then, unwrap_or, IfSome, is_none, bytes_eq}
 use Rattle.std.specs.Option.{option_or}
+use Rattle.std.proofs.lemmas.Bool.{ltb-true}
 use Rattle.std.proofs.lemmas.Option.{slice_get_cases}
 use Rattle.indexmap.proofs.MapLemmas.{Found-position}
 use Rattle.mem_model.specs.Answer.{Answered}
@@ -17,7 +18,7 @@ use Rattle.res_table.specs.declared.answers.AcquireError.{AcquireError}
 use Rattle.res_table.specs.declared.answers.AcquireError.TheVariants as error
 use Rattle.res_table.specs.declared.answers.Res.{Res}
 use Rattle.res_table.specs.declared.kinds.Table.{Table}
-use Rattle.res_table.specs.declared.kinds.Table.TheVariants.{Sounds}
+use Rattle.res_table.specs.declared.kinds.Table.TheVariants.{Models, Sounds}
 use Rattle.res_table.specs.declared.slots.Loaded.{Loaded}
 use Rattle.res_table.proofs.Entering.{found_within}
 use Rattle.res_table.proofs.Kept.{kept_same}
@@ -25,8 +26,9 @@ use Rattle.res_table.specs.Acquire.{Acquired, Acquires, IsAcquired, answered_aft
 use Rattle.res_table.specs.Held.{AreHeld}
 use Rattle.res_table.specs.Images.{file_of}
 use Rattle.res_table.specs.Loads.{IsMadeOf, Makes, made_of}
+use Rattle.res_table.specs.Ready.{IsFree}
 use Rattle.res_table.specs.Resources.{Resources, rows_in, with_rows}
-use Rattle.res_table.specs.Tables.{entered, slot_for, slot_of, user_of}
+use Rattle.res_table.specs.Tables.{entered, most_of, slot_for, slot_of, user_of}
 
 -- a user without a place has no bytes
 bytes_of_none : (c : Cache) (user : ℕ) → peek_place c user ≡ None → peek_bytes c user ≡ None
@@ -44,9 +46,12 @@ not_held c user h = by (block_of c user) h where
   by (Some b) h = absurd (h (unplaced b) refl)
 
 -- the next slot's user is that of no slot
-no_next : (t : Resources) (table other : Table) (slot : ℕ) → slot < length (rows_in t other)
-    → user_of table (length (rows_in t table)) ≡ user_of other slot → ⊥
-no_next t Sounds Sounds slot within same = absurd (omega (arith, same, within))
+no_next : (t : Resources) (table other : Table) (slot : ℕ) → ((o : Table) → length (rows_in t o) ≤ most_of o) → length (rows_in t table) < most_of table
+    → slot < length (rows_in t other) → user_of table (length (rows_in t table)) ≡ user_of other slot → ⊥
+no_next t Models Models slot few room within same = absurd (omega (arith, same, within))
+no_next t Models Sounds slot few room within same = absurd (omega (arith, same, room))
+no_next t Sounds Models slot few room within same = absurd (omega (arith, same, within, few Models))
+no_next t Sounds Sounds slot few room within same = absurd (omega (arith, same, within))
 
 nothing : {A : Type 0} (given : ℕ → A) (o : Option ℕ) → option_map given o ≡ None → o ≡ None
 nothing given None e = refl
@@ -67,15 +72,22 @@ row_there name rows slot at past =
 
 -- Where the file is needed the user of the name's slot has no block.
 module _ {mounts : List (Option Mount)} (t : Resources) (m : Memory) (table : Table) (name : List ℕ) (is : AreHeld mounts t m) where
-  none_next : peek_bytes m.cache (user_of table (length (rows_in t table))) ≡ None
-  none_next = not_held m.cache (user_of table (length (rows_in t table))) (λ b has.
+  none_next : length (rows_in t table) < most_of table → peek_bytes m.cache (user_of table (length (rows_in t table))) ≡ None
+  none_next room = not_held m.cache (user_of table (length (rows_in t table))) (λ b has.
       let at = is.cached (user_of table (length (rows_in t table))) b has in
-      no_next t table at.table at.slot (found_within (rows_in t at.table) at.name at.slot at.loaded at.found) at.is)
+      no_next t table at.table at.slot is.few room (found_within (rows_in t at.table) at.name at.slot at.loaded at.found) at.is)
+
+  has_room : answered_at t m table None ≡ None → length (rows_in t table) < most_of table
+  has_room before = by (nat_lt (length (rows_in t table)) (most_of table)) refl before where
+    by : (b : Bool) → nat_lt (length (rows_in t table)) (most_of table) ≡ b → cond {A = Option Acquired} b None (Some (record { answer = Err error.TableFull; table = t; after = m })) ≡ None
+        → length (rows_in t table) < most_of table
+    by true is before = ltb-true (length (rows_in t table)) (most_of table) is
+    by false is before = absurd (cc)
 
   absent_at : (slot : Option ℕ) → slot_of name (rows_in t table) ≡ slot
       → answered_at t m table (option_and_then (λ at. option_map (λ row. (at, row.1)) (slice_get (rows_in t table) at)) slot) ≡ None
       → peek_bytes m.cache (user_of table (unwrap_or slot (length (rows_in t table)))) ≡ None
-  absent_at None at before = none_next
+  absent_at None at before = none_next (has_room before)
   absent_at (Some slot) at before = by (slice_get (rows_in t table) slot) refl before where
     by : (row : Option (List ℕ × Loaded)) → slice_get (rows_in t table) slot ≡ row
         → answered_at t m table (option_map (λ row. (slot, row.1)) row) ≡ None → peek_bytes m.cache (user_of table slot) ≡ None
@@ -85,6 +97,17 @@ module _ {mounts : List (Option Mount)} (t : Resources) (m : Memory) (table : Ta
   pub absent_user : answered_before t m table name ≡ None → peek_bytes m.cache (user_of table (slot_for name (rows_in t table))) ≡ None
   unfolding answered_before
   absent_user before = absent_at (slot_of name (rows_in t table)) refl before
+
+  -- and is one of the cache's
+  user_below : (x : Table) (slot : ℕ) → slot < most_of x → user_of x slot < 768
+  user_below Models slot below = omega (arith, below)
+  user_below Sounds slot below = omega (arith, below)
+
+  pub free_user : slot_for name (rows_in t table) < most_of table → answered_before t m table name ≡ None → IsFree m (user_of table (slot_for name (rows_in t table)))
+  free_user room before = record {
+    known = omega (arith, user_below table (slot_for name (rows_in t table)) room, is.users);
+    absent = absent_user before;
+  }
 
 -- What was answered without the file.
 pub early_ok : (t : Resources) (new : Memory) (res : Res) (before after : Option Acquired) → before ≡ Some (record { answer = Ok res; table = t; after = new })

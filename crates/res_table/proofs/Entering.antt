@@ -1,5 +1,5 @@
 -- The rows with what was loaded for a name.
-use Rattle.std.proofs.Common.{◌≡◌, ◌≢◌, ℕ, suc, ◌<◌, Bool, true, false, true≢false, cond, List, [], ◌∷◌, length, Option, Some, None, refl, sym, ap, subst, ◌∙◌, arith}
+use Rattle.std.proofs.Common.{◌≡◌, ◌≢◌, ◌⊎◌, inl, inr, ℕ, suc, ◌<◌, ◌≤◌, Bool, true, false, true≢false, cond, List, [], ◌∷◌, length, Option, Some, None, refl, sym, ap, subst, ◌∙◌, arith}
 use Rattle.std.specs.Prelude.{slice_get, option_map, option_and_then, unwrap_or, bytes_eq}
 use Rattle.std.specs.Map.{keys_of}
 use Rattle.std.proofs.lemmas.Slice.Eq.{bytes_eq-Decides}
@@ -157,3 +157,29 @@ slot_found rows name slot loaded found = by (slot_of name rows) found where
   by : (o : Option ℕ) → option_and_then (at_slot rows) o ≡ some slot loaded → slot ≡ unwrap_or o (length rows)
   by None h = absurd (cc)
   by (Some at) h = at_row at (slice_get rows at) h
+
+-- a name is entered in its row, or in a further one, which is that of its slot
+entered_long : (rows : List Row) (name : List ℕ) (loaded : Loaded)
+    → (length (entered rows name loaded) ≡ length rows) ⊎ (length (entered rows name loaded) ≡ suc (slot_for name rows))
+entered_long [] name loaded = inr refl
+entered_long (row ∷ rows) name loaded = by (bytes_eq name row.0) refl (entered_long rows name loaded) where
+  entered_is : (b : Bool) → bytes_eq name row.0 ≡ b → length (entered (row ∷ rows) name loaded) ≡ length (cond b ((row.0, loaded) ∷ rows) (row ∷ entered rows name loaded))
+  entered_is b at = ap length (entered-cons name loaded row rows) ∙ ap (λ b. length (cond b ((row.0, loaded) ∷ rows) (row ∷ entered rows name loaded))) at
+
+  slot_is : (b : Bool) → bytes_eq name row.0 ≡ b → slot_for name (row ∷ rows) ≡ cond b 0 (suc (slot_for name rows))
+  slot_is b at = slot_for-cons name row rows ∙ ap (λ b. cond b 0 (suc (slot_for name rows))) at
+
+  by : (b : Bool) → bytes_eq name row.0 ≡ b → (length (entered rows name loaded) ≡ length rows) ⊎ (length (entered rows name loaded) ≡ suc (slot_for name rows))
+      → (length (entered (row ∷ rows) name loaded) ≡ length (row ∷ rows)) ⊎ (length (entered (row ∷ rows) name loaded) ≡ suc (slot_for name (row ∷ rows)))
+  by true at before = inl (entered_is true at)
+  by false at before = elim before [
+    | inl same ↦ inl (entered_is false at ∙ ap suc same)
+    | inr further ↦ inr (entered_is false at ∙ ap suc further ∙ ap suc (sym (slot_is false at)))
+  ]
+
+pub entered_within : (rows : List Row) (name : List ℕ) (loaded : Loaded) (most : ℕ) → slot_for name rows < most → length rows ≤ most
+    → length (entered rows name loaded) ≤ most
+entered_within rows name loaded most below few = elim (entered_long rows name loaded) [
+  | inl same ↦ omega (arith, same, few)
+  | inr further ↦ omega (arith, further, below)
+]

@@ -1,19 +1,25 @@
 -- What the calls leave of the blocks that a table may name.
 use Rattle.std.proofs.Common.{◌≡◌, ℕ, ◌<◌, List, [], ◌∷◌, eqb, ltb, Option, Result, Ok, Err, refl, sym, ap, ◌∙◌}
-use Rattle.std.specs.Prelude.{is_some}
+use Rattle.std.specs.Prelude.{Bool, is_some}
 use Rattle.std.proofs.lemmas.Bool.{cond_both}
-use Rattle.mem_model.specs.Answer.{Answered, Answers}
+use Rattle.mem_model.specs.Answer.{Answered, Answers, Gives}
+use Rattle.mem_model.specs.declared.answers.RoomError.{RoomError}
+use Rattle.mem_model.specs.declared.answers.RoomError.TheVariants as room_error
 use Rattle.mem_model.specs.Cache.{block_of}
 use Rattle.mem_model.specs.Event.{CacheRefusal}
 use Rattle.mem_model.specs.Keeps.{KeepsAll, held}
 use Rattle.mem_model.specs.Laid.{Laid, IsText}
 use Rattle.mem_model.specs.Memory.{Memory, room}
-use Rattle.mem_model.specs.Operations.{build_cache, cache_alloc, check}
+use Rattle.mem_model.specs.Operations.{build_cache, cache_alloc, check, copy_low_to_cache}
 use Rattle.mem_model.specs.Places.{cache_need}
 use Rattle.mem_model.proofs.CacheLaws.{beside-cache_alloc, low_bytes-beside_cache, users-cache_alloc}
-use Rattle.mem_model.proofs.Keeping.{Keeps-all, Keeps-build_cache, Keeps-cache_alloc, Keeps-check, Keeps-fewer, Keeps-more, is_excepted, none_excepted}
+use Rattle.mem_model.proofs.Keeping.{Keeps-all, Keeps-build_cache, Keeps-cache_alloc, Keeps-check, Keeps-copy_low_to_cache, Keeps-fewer, Keeps-more, is_excepted, none_excepted}
 use Rattle.mem_model.proofs.Untouched.{left-with_event}
 use Rattle.res_table.specs.declared.answers.Fault.{Fault}
+use Rattle.res_table.specs.declared.kinds.Kind.{Kind}
+use Rattle.res_table.specs.declared.kinds.Kind.TheVariants as kind
+use Rattle.res_table.specs.Kept.{made_for, users_for}
+use Rattle.res_table.specs.Refusals.{block_answer}
 
 pub kept_same : (m n : Memory) → n ≡ m → KeepsAll [] m n
 kept_same m n same = rw same (λ lows. Keeps-all lows [] m)
@@ -23,6 +29,15 @@ kept_more p q = λ lows. Keeps-more (p lows) (q lows)
 
 pub kept_but : {a b : Memory} (except : List ℕ) → KeepsAll [] a b → KeepsAll except a b
 kept_but except p = λ lows. Keeps-fewer (λ place in_table. in_table) (λ user is. absurd (none_excepted user is)) (p lows)
+
+pub kept_for : {a b : Memory} (kind : Kind) (user : ℕ) → KeepsAll (users_for kind user) a b → KeepsAll (user ∷ []) a b
+kept_for kind.Alias user p = p
+kept_for kind.Sprite user p = kept_but (user ∷ []) p
+kept_for kind.Sound user p = p
+
+pub kept_none : {A E : Type 0} {a b : Memory} (result : Result A E) → KeepsAll [] a b → KeepsAll (made_for [] result) a b
+kept_none (Ok made) p = p
+kept_none (Err refusal) p = p
 
 pub kept_check : (m n : Memory) (user : ℕ) (place : Option ℕ) → Laid m → Answers (check m user) place n → KeepsAll [] m n
 kept_check m n user place laid gives =
@@ -47,11 +62,22 @@ kept_refused m n user size name e gives =
       count = users-cache_alloc m user size name;
     })
 
+pub kept_no_block : (m n : Memory) (user size : ℕ) (name : List ℕ) (frugal : Bool) (e : RoomError) → Gives (cache_alloc m user size name) frugal m (block_answer (Err e)) n → KeepsAll [] m n
+kept_no_block m n user size name frugal (room_error.NoRoom asked left) ends = kept_refused m n user size name _ ends
+kept_no_block m n user size name frugal room_error.OutOfMemory ends = kept_same m n ends.after
+
 pub kept_built : (m mid n : Memory) (user size len : ℕ) (name : List ℕ) (image_of : List ℕ → Result (List ℕ) Fault) → Laid m → user < m.users → IsText name
     → Answers (cache_alloc m user size name) (Ok tt) mid → Answers (build_cache mid user len image_of) tt n → KeepsAll (user ∷ []) m n
 kept_built m mid n user size len name image_of laid known text gives builds =
     let first : KeepsAll (user ∷ []) m mid = rw gives.after (λ lows. Keeps-cache_alloc lows (user ∷ []) m user size name laid known text (is_excepted user)) in
     let second : KeepsAll (user ∷ []) mid n = rw builds.after (λ lows. Keeps-build_cache lows (user ∷ []) mid user len image_of (is_excepted user)) in
+    kept_more first second
+
+pub kept_copied : (m mid n : Memory) (user low size : ℕ) (name : List ℕ) → Laid m → user < m.users → IsText name
+    → Answers (cache_alloc m user size name) (Ok tt) mid → Answers (copy_low_to_cache mid low user size) tt n → KeepsAll (user ∷ []) m n
+kept_copied m mid n user low size name laid known text gives copies =
+    let first : KeepsAll (user ∷ []) m mid = rw gives.after (λ lows. Keeps-cache_alloc lows (user ∷ []) m user size name laid known text (is_excepted user)) in
+    let second : KeepsAll (user ∷ []) mid n = rw copies.after (λ lows. Keeps-copy_low_to_cache lows (user ∷ []) mid low user size (is_excepted user)) in
     kept_more first second
 
 pub ruleset kept_laws = (kept_same)

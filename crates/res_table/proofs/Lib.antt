@@ -5,6 +5,7 @@ pub mod Naming
 pub mod Entering
 pub mod Kept
 pub mod Caching
+pub mod Lowering
 pub mod Asking
 pub mod Loading
 pub mod Acquiring

@@ -17,6 +17,7 @@ use Rattle.res_table.specs.declared.kinds.Table.{Table}
 use Rattle.res_table.specs.declared.slots.Loaded.{Loaded}
 use Rattle.res_table.specs.Images.{file_of}
 use Rattle.res_table.specs.Loads.{made_of}
+use Rattle.res_table.specs.Placed.{low_at}
 use Rattle.res_table.specs.Resources.{Resources, rows_in, with_rows}
 use Rattle.res_table.specs.Tables.{found_in, most_of, slot_for, user_of, entered}
 
@@ -34,9 +35,9 @@ used m user (Some place) = m
 abbrev pub old_res : Loaded → ℕ → Res
 old_res loaded place = record { kind = loaded.kind; size = loaded.size; place = place; loaded = false }
 
--- what is kept of a resource that was loaded into the cache
+-- what is kept of a resource that was loaded
 abbrev pub loaded_of : Res → Loaded
-loaded_of res = record { kind = res.kind; size = res.size; low = None }
+loaded_of res = record { kind = res.kind; size = res.size; low = low_at res.kind res.place }
 
 pub record Acquired : Type 0 where
   pub answer : Result Res AcquireError

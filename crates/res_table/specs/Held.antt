@@ -14,7 +14,7 @@ use Rattle.res_table.specs.declared.kinds.Table.{Table}
 use Rattle.res_table.specs.declared.slots.Loaded.{Loaded}
 use Rattle.res_table.specs.Images.{file_of, image_of, kind_of}
 use Rattle.res_table.specs.Resources.{Resources, rows_in}
-use Rattle.res_table.specs.Tables.{found_in, user_of}
+use Rattle.res_table.specs.Tables.{found_in, most_of, user_of}
 
 -- the bytes of the block of a resource, where it is there
 abbrev pub bytes_at : Memory → (user : ℕ) → Option Place → Option (List ℕ)
@@ -31,7 +31,7 @@ lows_in [] = []
 lows_in (row ∷ rows) = low_of row.1.low ++ lows_in rows
 
 abbrev pub lows_of : Resources → List ℕ
-lows_of t = lows_in t.sounds
+lows_of t = lows_in t.models ++ lows_in t.sounds
 
 -- The user is that of the slot of a name whose resource is in the cache.
 pub record IsSlotUser (t : Resources) (user : ℕ) : Type 0 where
@@ -48,15 +48,16 @@ pub record IsImageOf (speed : ℕ) (mounts : List (Option Mount)) (table : Table
     (bytes : List ℕ) : Type 0 where
   pub source : List ℕ
   pub small : length source ≤ 2 ^ 26
-  pub kind : loaded.kind ≡ kind_of table source
+  pub kind : kind_of table source ≡ Ok loaded.kind
   pub image : image_of speed loaded.kind source ≡ Ok (take loaded.size bytes)
   pub fits : loaded.size ≤ length bytes
   pub told : IfSome (find_told file mounts) (λ found. sought found ≡ Ok source)
 
--- The users of all slots are the store's. Each block of the cache is that of a slot, and each low place that of a low block
--- above the zone. Each resource that is there is the image of its file.
+-- The users of all slots are the store's, and no table has more names than it can have. Each block of the cache is that of
+-- a slot, and each low place that of a low block above the zone. Each resource that is there is the image of its file.
 pub record AreHeld (mounts : List (Option Mount)) (t : Resources) (m : Memory) : Type 0 where
   pub users : 768 ≤ m.users
+  pub few : (table : Table) → length (rows_in t table) ≤ most_of table
   pub cached : (user : ℕ) (b : CacheBlock) → held m.cache user ≡ Some b → IsSlotUser t user
   pub low : AreLow m (lows_of t)
   pub images : (table : Table) (name : List ℕ) (slot : ℕ) (loaded : Loaded)

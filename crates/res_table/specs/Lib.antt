@@ -4,7 +4,8 @@ pub mod Refusals
 pub mod Faults
 pub mod Calls
 pub mod Images
-pub mod Cached
+pub mod Ready
+pub mod Placed
 pub mod Loads
 pub mod Acquire
 pub mod Held

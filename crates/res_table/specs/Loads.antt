@@ -8,16 +8,23 @@ use Rattle.res_table.specs.declared.answers.AcquireError.{AcquireError}
 use Rattle.res_table.specs.declared.answers.AcquireError.TheVariants as error
 use Rattle.res_table.specs.declared.answers.Fault.{Fault}
 use Rattle.res_table.specs.declared.answers.Res.{Res}
-use Rattle.res_table.specs.declared.builder.ImageBuilder.{ImageBuilder}
+use Rattle.res_table.specs.declared.builder.NewImage.{NewImage}
 use Rattle.res_table.specs.declared.kinds.Kind.{Kind}
 use Rattle.res_table.specs.declared.kinds.Table.{Table}
-use Rattle.res_table.specs.Cached.{cached}
 use Rattle.res_table.specs.Images.{kind_of, image_of}
+use Rattle.res_table.specs.Placed.{put_as}
 
--- the builder of an image of this kind, and how many bytes the image has
-abbrev pub sized : (speed : ℕ) → (kind : Kind) → Result (List ℕ) Fault → Result (ImageBuilder × ℕ) Fault
-sized speed kind (Ok image) = Ok (record { speed = speed; kind = kind }, length image)
-sized speed kind (Err fault) = Err fault
+-- The image of so many bytes, by its builder and its size.
+module _ (speed count : ℕ) where
+  abbrev pub sized : (kind : Kind) → Result (List ℕ) Fault → Result NewImage Fault
+  sized kind (Ok image) =
+      Ok (record { builder = record { speed = speed; kind = kind }; length = count; size = length image })
+  sized kind (Err fault) = Err fault
+
+  -- the same of bytes, where they have a kind
+  abbrev pub sized_as : (bytes : List ℕ) → Result Kind Fault → Result NewImage Fault
+  sized_as bytes (Ok kind) = sized kind (image_of speed kind bytes)
+  sized_as bytes (Err fault) = Err fault
 
 abbrev pub out_of_room : Shortage → AcquireError
 out_of_room shortage = error.NoRoom shortage.asked shortage.room
@@ -27,21 +34,27 @@ abbrev pub new_res : Kind → ℕ → Result ℕ Shortage → Result Res Acquire
 new_res kind size (Ok place) = Ok (record { kind = kind; size = size; place = place; loaded = true })
 new_res kind size (Err shortage) = Err (out_of_room shortage)
 
--- The image is put into a new block of the user, named by the base of the file's name.
+-- The image is put where it belongs, in a block that is named by the base of the file's name.
 abbrev pub from_image : Memory → (user : ℕ) → (base : List ℕ) → Kind → Result (List ℕ) Fault
     → Answered (Result Res AcquireError)
 from_image m user base kind (Ok image) = record {
-  answer = new_res kind (length image) (cached m user image base).answer;
-  after = (cached m user image base).after;
+  answer = new_res kind (length image) (put_as kind m user image base).answer;
+  after = (put_as kind m user image base).after;
 }
 from_image m user base kind (Err fault) = record { answer = Err (error.Bad fault); after = m }
+
+-- Bytes are made into an image, where they have a kind.
+abbrev pub from_bytes : Memory → (speed user : ℕ) → (base bytes : List ℕ) → Result Kind Fault
+    → Answered (Result Res AcquireError)
+from_bytes m speed user base bytes (Ok kind) = from_image m user base kind (image_of speed kind bytes)
+from_bytes m speed user base bytes (Err fault) = record { answer = Err (error.Bad fault); after = m }
 
 module _ (speed : ℕ) (table : Table) (user : ℕ) (base : List ℕ) where
   abbrev pub from_load : Memory → Load → Answered (Result Res AcquireError)
   from_load m Missing = record { answer = Err error.NotFound; after = m }
   from_load m (Beyond end whole) = record { answer = Err (error.BeyondPack end whole); after = m }
   from_load m (NoRoom shortage) = record { answer = Err (out_of_room shortage); after = m }
-  from_load m (At place bytes) = from_image m user base (kind_of table bytes) (image_of speed (kind_of table bytes) bytes)
+  from_load m (At place bytes) = from_bytes m speed user base bytes (kind_of table bytes)
 
   -- The resource of a file that was loaded, or why there is none.
   unfoldable pub made_of : Loading → Answered (Result Res AcquireError)

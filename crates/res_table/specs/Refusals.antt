@@ -1,6 +1,8 @@
 -- How a refusal is told of a resource.
+use Rattle.std.specs.Prelude.{Option, Some, None, Result, Ok, Err}
 use Rattle.file_load.specs.declared.errors.LoadError.{LoadError}
 use Rattle.file_load.specs.declared.errors.LoadError.TheVariants as load
+use Rattle.mem_model.specs.Event.{CacheRefusal, CacheRefusal.NoRoom}
 use Rattle.mem_model.specs.declared.answers.RoomError.{RoomError}
 use Rattle.mem_model.specs.declared.answers.RoomError.TheVariants as room
 use Rattle.res_table.specs.declared.answers.AcquireError.{AcquireError}
@@ -16,3 +18,9 @@ load_refused load.OutOfMemory = error.OutOfMemory
 abbrev pub room_refused : RoomError → AcquireError
 room_refused (room.NoRoom asked left) = error.NoRoom asked left
 room_refused room.OutOfMemory = error.OutOfMemory
+
+-- what is told of a user's new block, whose refusal is of room alone
+abbrev pub block_answer : Result (Unit {0}) RoomError → Option (Result (Unit {0}) CacheRefusal)
+block_answer (Ok done) = Some (Ok done)
+block_answer (Err (room.NoRoom asked left)) = Some (Err (NoRoom (record { asked = asked; room = left })))
+block_answer (Err room.OutOfMemory) = None

@@ -4,15 +4,17 @@ use Rattle.std.specs.Prelude.{option_and_then, unwrap_or, bytes_eq, position}
 use Rattle.indexmap.specs.IndexMap.{set_value_at}
 use Rattle.std.specs.Map.{keys_of}
 use Rattle.res_table.specs.declared.kinds.Table.{Table}
-use Rattle.res_table.specs.declared.kinds.Table.TheVariants.{Sounds}
+use Rattle.res_table.specs.declared.kinds.Table.TheVariants.{Models, Sounds}
 use Rattle.res_table.specs.declared.slots.Loaded.{Loaded}
 
 -- how many names a table has at most
 abbrev pub most_of : Table → ℕ
+most_of Models = 256
 most_of Sounds = 512
 
 -- the user of the cache that a slot has
 abbrev pub user_of : Table → ℕ → ℕ
+user_of Models slot = slot
 user_of Sounds slot = 256 + slot
 
 -- the names of a table, each with what was loaded for it, and for how many there is room

@@ -1,14 +1,23 @@
 // What is answered when a resource is acquired.
 use crate::kinds::Kind;
+use alias_load::AliasFault;
 use file_load::LoadError;
 use mem_model::RoomError;
+use sprite_load::SpriteFault;
 use wav_load::WavFault;
 
 /// Why the bytes of a file are no resource.
 #[derive(Clone, Copy, Debug, PartialEq, Eq)]
 pub enum Fault {
+    /// They are no alias model.
+    Alias(AliasFault),
+    /// They are no sprite.
+    Sprite(SpriteFault),
     /// They are no sound.
     Sound(WavFault),
+    /// They begin as neither an alias model nor a sprite, and other models aren't built: wads, which begin with `WAD2`, and
+    /// brushes, which any other file is taken for.
+    Unbuilt { wad: bool },
 }
 
 /// A resource that is there.

@@ -1,9 +1,11 @@
-// The builder of every kind of resource.
-ghost use Rattle.res_table.specs.Images.{image_of, sound_image};
+// The builder of every kind of resource, and what it is to make.
+ghost use Rattle.res_table.specs.Images.{image_of, told_by};
 
 use crate::answers::Fault;
 use crate::kinds::Kind;
+use alias_load::AliasBuilder;
 use mem_model::Builder;
+use sprite_load::SpriteBuilder;
 use wav_load::WavBuilder;
 
 /// Makes the images of one kind.
@@ -14,6 +16,16 @@ pub(crate) struct ImageBuilder {
     pub(crate) kind: Kind,
 }
 
+/// An image that is to be made.
+#[derive(Clone, Copy, Debug)]
+pub(crate) struct NewImage {
+    pub(crate) builder: ImageBuilder,
+    /// Of how many temporary bytes it is made.
+    pub(crate) length: usize,
+    /// Of how many bytes it is.
+    pub(crate) size: u32,
+}
+
 impl Builder for ImageBuilder {
     type Fault = Fault;
 
@@ -21,6 +33,8 @@ impl Builder for ImageBuilder {
 
     fn size(&self, source: &[u8]) -> Result<u64, Fault> {
         match self.kind {
+            Kind::Alias => AliasBuilder.size(source).map_err(Fault::Alias),
+            Kind::Sprite => SpriteBuilder.size(source).map_err(Fault::Sprite),
             Kind::Sound => WavBuilder { speed: self.speed }
                 .size(source)
                 .map_err(Fault::Sound),
@@ -29,6 +43,8 @@ impl Builder for ImageBuilder {
 
     fn build(&self, source: &[u8], block: &mut [u8]) {
         match self.kind {
+            Kind::Alias => AliasBuilder.build(source, block),
+            Kind::Sprite => SpriteBuilder.build(source, block),
             Kind::Sound => WavBuilder { speed: self.speed }.build(source, block),
         }
     }

@@ -7,6 +7,7 @@ mod cached;
 mod kinds;
 mod load;
 mod look;
+mod lowered;
 mod slots;
 mod table;
 #[cfg(test)]

@@ -1,8 +1,10 @@
 // The names of one table.
 ghost use Rattle.std.specs.Prelude.{◌≡◌, ◌<◌, ◌++◌, ◌∷◌, [], IfOk, IfSome, None, length, nat_lt};
 ghost use Rattle.indexmap.specs.IndexMap.{set_value_at};
+ghost use Rattle.res_table.specs.Acquire.{loaded_of};
 ghost use Rattle.res_table.specs.Tables.{entered, found_in, slot_for, slot_of};
 
+use crate::answers::Res;
 use crate::kinds::Kind;
 use base_fields::GameName;
 use indexmap::IndexMap;
@@ -18,6 +20,17 @@ pub(crate) struct Loaded {
     pub(crate) size: u32,
     /// The place of the image, where it lies on the low hunk and not in the cache.
     pub(crate) low: Option<Place>,
+}
+
+// What is kept of a resource that was loaded.
+pub(crate) fn loaded_of(res: &Res) -> Loaded
+    ensures { result ≡ loaded_of res.now }
+{
+    Loaded {
+        kind: res.kind,
+        size: res.size,
+        low: res.kind.low_at(Place(res.place)),
+    }
 }
 
 /// The names of a table, in the order of their first loads, and what was loaded for each. The number of a name in that order

@@ -19,7 +19,7 @@ use crate::answers::{AcquireError, Res};
 use crate::kinds::{Kind, Table};
 use crate::load::load;
 use crate::look::bytes_at;
-use crate::slots::{Loaded, Slots};
+use crate::slots::{Loaded, Slots, loaded_of};
 use crate::used::used;
 use base_fields::GameName;
 use mem_model::Store;
@@ -32,6 +32,7 @@ use std::marker::Model;
 #[derive(Drop)]
 pub struct ResTable {
     speed: u32,
+    models: Slots,
     sounds: Slots,
 }
 
@@ -41,9 +42,9 @@ impl Model for ResTable {
 
     ghost Value = { Resources };
 
-    ghost view = { λ t. record { speed = t.speed; sounds = t.sounds.rows } };
+    ghost view = { λ t. record { speed = t.speed; models = t.models.rows; sounds = t.sounds.rows } };
 
-    ghost invariant = { λ t. t.sounds.most ≡ 512 };
+    ghost invariant = { λ t. (t.models.most ≡ 256) × (t.sounds.most ≡ 512) };
 }
 
 impl ResTable {
@@ -54,6 +55,7 @@ impl ResTable {
     {
         Ok(ResTable {
             speed,
+            models: Slots::create(alloc, Table::Models.most())?,
             sounds: Slots::create(alloc, Table::Sounds.most())?,
         })
     }
@@ -70,6 +72,7 @@ impl ResTable {
         ensures { result.now ≡ record { rows = rows_in self.now table; most = most_of table } }
     {
         match table {
+            Table::Models => &self.models,
             Table::Sounds => &self.sounds,
         }
     }
@@ -80,6 +83,7 @@ impl ResTable {
         ensures { self.new ≡ with_rows self.old table (entered (rows_in self.old table) name.now loaded) }
     {
         match table {
+            Table::Models => self.models.enter(name, loaded),
             Table::Sounds => self.sounds.enter(name, loaded),
         }
     }
@@ -160,12 +164,7 @@ impl ResTable {
         }
         let user = table.user(self.slots(table).slot(name));
         let res = load(store, paths, self.speed(), table, user, &table.file(name))?;
-        let loaded = Loaded {
-            kind: res.kind,
-            size: res.size,
-            low: None,
-        };
-        self.enter(table, name, loaded);
+        self.enter(table, name, loaded_of(&res));
         Ok(res)
     }
 

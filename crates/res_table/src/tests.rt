@@ -1,4 +1,4 @@
-//! What no clause says: that sounds are loaded, and numbers from outside.
+//! What no clause says: that sounds and models are loaded, and numbers from outside.
 
 ghost use Rattle.std.specs.Prelude.{◌≤◌, ◌^◌};
 ghost use Rattle.mem_model.specs.Laid.{IsMultiple};
@@ -27,7 +27,37 @@ fn pack(alloc: Global) -> Result<Vec<u8>, AllocError> {
     Ok(bytes)
 }
 
-// A file of so many samples of 8 bits, one that is no sound, or that pack.
+// A sprite of one picture of 3 x 2.
+const SPRITE: &[u8] = b"IDSP\x01\0\0\0\x02\0\0\0\0\0\0\0\0\0\0\0\0\0\0\0\x01\0\0\0\0\0\0\0\0\0\0\0\
+    \0\0\0\0\0\0\0\0\0\0\0\0\x03\0\0\0\x02\0\0\0pixels";
+
+// An alias model of a skin of 4 x 1, a vertex, a triangle and a pose: 152 bytes, and 188 of its image.
+fn alias(alloc: Global) -> Result<Vec<u8>, AllocError> {
+    let mut bytes = Vec::from_slice(alloc, b"IDPO\x06\0\0\0")?;
+    bytes.extend_from_slice(&[0; 40])?;
+    bytes.extend_from_slice(b"\x01\0\0\0\x04\0\0\0\x01\0\0\0\x01\0\0\0\x01\0\0\0\x01\0\0\0")?;
+    bytes.extend_from_slice(&[0; 80])?;
+    Ok(bytes)
+}
+
+// A model, where the name is that of one.
+fn model(alloc: Global, name: &[u8]) -> Result<Option<Vec<u8>>, AllocError> {
+    if name == b"g.mdl".as_slice() {
+        return Ok(Some(alias(alloc)?));
+    }
+    let text: &[u8] = if name == b"p.spr".as_slice() {
+        SPRITE
+    } else if name == b"w.wad".as_slice() {
+        b"WAD2"
+    } else if name == b"x.bsp".as_slice() {
+        b"WAD"
+    } else {
+        return Ok(None);
+    };
+    Ok(Some(Vec::from_slice(alloc, text)?))
+}
+
+// That model, a file of so many samples of 8 bits, one that is no sound, or that pack.
 fn file(alloc: Global, name: &[u8], samples: usize) -> Result<Vec<u8>, AllocError> {
     if name == b"sound/bad.wav".as_slice() {
         return Vec::from_slice(alloc, b"RIFX");
@@ -35,14 +65,17 @@ fn file(alloc: Global, name: &[u8], samples: usize) -> Result<Vec<u8>, AllocErro
     if name == b"pak0.pak".as_slice() {
         return pack(alloc);
     }
+    if let Some(bytes) = model(alloc, name)? {
+        return Ok(bytes);
+    }
     let mut bytes = Vec::from_slice(alloc, HEADER)?;
     bytes.extend_from_slice(&vec![in alloc; 128; samples]?)?;
     Ok(bytes)
 }
 
-// A folder of six sounds and those two, whose call of this number fails.
+// A folder of six sounds, those two and four models, whose call of this number fails.
 fn folder(alloc: Global, samples: usize, fails: u64) -> Result<MemFolder, AllocError> {
-    let names: [&[u8]; 8] = [
+    let names: [&[u8]; 12] = [
         b"sound/s0.wav",
         b"sound/s1.wav",
         b"sound/s2.wav",
@@ -51,6 +84,10 @@ fn folder(alloc: Global, samples: usize, fails: u64) -> Result<MemFolder, AllocE
         b"sound/s5.wav",
         b"sound/bad.wav",
         b"pak0.pak",
+        b"g.mdl",
+        b"p.spr",
+        b"w.wad",
+        b"x.bsp",
     ];
     let mut held = Vec::new(alloc);
     for name in names {
@@ -78,11 +115,12 @@ fn path(
     }
 }
 
-// What is answered for the sound of this word.
-fn sound<M: Store, F: Folder>(
+// What is answered for this word of a table.
+fn ask<M: Store, F: Folder>(
     table: &mut ResTable,
     store: &mut M,
     paths: &mut Paths<F>,
+    of: Table,
     word: &[u8],
 ) -> Result<Res, AcquireError>
     requires { AreHeld (told_mounts F.files paths.old) table.old (M.state store.old) }
@@ -91,11 +129,11 @@ fn sound<M: Store, F: Folder>(
     let Ok(name) = game_name(word) else {
         return Err(AcquireError::NotFound);
     };
-    if !Table::Sounds.has_file(&name) {
+    if !of.has_file(&name) {
         return Err(AcquireError::NotFound);
     }
     let _ = store.size();
-    table.acquire(store, paths, Table::Sounds, &name)
+    table.acquire(store, paths, of, &name)
 }
 
 // The number of the first of these words that is answered otherwise.
@@ -103,13 +141,14 @@ fn first_wrong<M: Store, F: Folder>(
     table: &mut ResTable,
     store: &mut M,
     paths: &mut Paths<F>,
+    of: Table,
     cases: &[(&[u8], Result<Res, AcquireError>)],
 ) -> Option<usize>
     requires { AreHeld (told_mounts F.files paths.old) table.old (M.state store.old) }
 {
     for number in 0..cases.len() {
         let (word, answer) = cases[number];
-        if sound(table, store, paths, word) != answer {
+        if ask(table, store, paths, of, word) != answer {
             return Some(number);
         }
     }
@@ -122,6 +161,7 @@ fn first_wrong_in(
     size: u32,
     samples: usize,
     fails: u64,
+    of: Table,
     cases: &[(&[u8], Result<Res, AcquireError>)],
 ) -> Result<Option<usize>, Fail>
     requires { (IsMultiple 16 size) × (size ≤ 2 ^ 26) }
@@ -129,12 +169,16 @@ fn first_wrong_in(
     let mut store = PlainStore::create(alloc, size, ZONE, 768)?;
     let mut table = ResTable::create(alloc, 11_025)?;
     let mut paths = path(alloc, folder(alloc, samples, fails)?)??;
-    Ok(first_wrong(&mut table, &mut store, &mut paths, cases))
+    Ok(first_wrong(&mut table, &mut store, &mut paths, of, cases))
 }
 
 fn at(place: u32, size: u32, loaded: bool) -> Result<Res, AcquireError> {
+    there(Kind::Sound, place, size, loaded)
+}
+
+fn there(kind: Kind, place: u32, size: u32, loaded: bool) -> Result<Res, AcquireError> {
     Ok(Res {
-        kind: Kind::Sound,
+        kind,
         size,
         place,
         loaded,
@@ -155,7 +199,7 @@ fn the_least_recently_used_leave(rt: HostRuntime) -> Result<(), Fail> {
         (b"s1.wav", at(349_336, 150_020, true)),
     ];
     assert_eq!(rt;
-        first_wrong_in(alloc, 1_048_576, 150_000, 99, &cases)?,
+        first_wrong_in(alloc, 1_048_576, 150_000, 99, Table::Sounds, &cases)?,
         None
     );
     Ok(())
@@ -182,7 +226,10 @@ fn each_refusal_is_told(rt: HostRuntime) -> Result<(), Fail> {
         (b"s0.wav", at(49_208, 64, false)),
         (b"s1.wav", Err(AcquireError::FolderFault { folder: 0 })),
     ];
-    assert_eq!(rt; first_wrong_in(alloc, 49_456, 44, 10, &cases)?, None);
+    assert_eq!(rt;
+        first_wrong_in(alloc, 49_456, 44, 10, Table::Sounds, &cases)?,
+        None
+    );
     Ok(())
 }
 
@@ -197,7 +244,52 @@ fn a_sound_needs_room_beside_its_file(rt: HostRuntime) -> Result<(), Fail> {
         (b"s0.wav", Err(none)),
         (b"s0.wav", Err(none)),
     ];
-    assert_eq!(rt; first_wrong_in(alloc, 49_376, 44, 99, &cases)?, None);
+    assert_eq!(rt;
+        first_wrong_in(alloc, 49_376, 44, 99, Table::Sounds, &cases)?,
+        None
+    );
+    Ok(())
+}
+
+// The image of the alias is built in a low block of 208 bytes, its block in the cache stands behind that, and then the low
+// block is free again.
+#[test]
+fn a_model_goes_where_its_kind_belongs(rt: HostRuntime) -> Result<(), Fail> {
+    let alloc = rt.alloc();
+    let unbuilt = |wad: bool| Err(AcquireError::Bad(Fault::Unbuilt { wad }));
+    let cases: [(&[u8], Result<Res, AcquireError>); 7] = [
+        (b"g.mdl", there(Kind::Alias, 49_416, 188, true)),
+        (b"p.spr", there(Kind::Sprite, 49_184, 78, true)),
+        (b"w.wad", unbuilt(true)),
+        (b"x.bsp", unbuilt(false)),
+        (b"none.mdl", Err(AcquireError::NotFound)),
+        (b"g.mdl", there(Kind::Alias, 49_416, 188, false)),
+        (b"p.spr", there(Kind::Sprite, 49_184, 78, false)),
+    ];
+    assert_eq!(rt;
+        first_wrong_in(alloc, 1_048_576, 0, 99, Table::Models, &cases)?,
+        None
+    );
+    Ok(())
+}
+
+// Behind the file of the alias, 176 bytes, there are 432: enough for its low block, and not for that of the cache, too.
+#[test]
+fn a_low_block_is_freed_where_the_cache_has_no_room(rt: HostRuntime) -> Result<(), Fail> {
+    let alloc = rt.alloc();
+    let none = AcquireError::NoRoom {
+        asked: 240,
+        room: 224,
+    };
+    let cases: [(&[u8], Result<Res, AcquireError>); 3] = [
+        (b"g.mdl", Err(none)),
+        (b"g.mdl", Err(none)),
+        (b"p.spr", there(Kind::Sprite, 49_184, 78, true)),
+    ];
+    assert_eq!(rt;
+        first_wrong_in(alloc, 49_776, 0, 99, Table::Models, &cases)?,
+        None
+    );
     Ok(())
 }
 
@@ -225,7 +317,7 @@ fn first_unlike<M: Store, F: Folder>(
     let image = Some((Kind::Sound, 64, Some(44)));
     for number in 0..cases.len() {
         let (word, first, second) = cases[number];
-        let _ = sound(table, store, paths, word);
+        let _ = ask(table, store, paths, Table::Sounds, word);
         if shown(table, store, b"s0.wav") != image.filter(|_| first) {
             return Some(number);
         }
@@ -270,31 +362,36 @@ fn numbered(number: usize) -> [u8; 8] {
     ]
 }
 
-// A folder of 513 sounds.
-fn many(alloc: Global) -> Result<MemFolder, AllocError> {
+// A folder of 513 sounds, or of as many sprites.
+fn many(alloc: Global, of: Table) -> Result<MemFolder, AllocError> {
+    let (front, file): (&[u8], &[u8]) = match of {
+        Table::Models => (b"", SPRITE),
+        Table::Sounds => (
+            b"sound/",
+            b"RIFF\0\0\0\0WAVEfmt \x10\0\0\0\x01\0\x01\0\x11\x2b\0\0\x11\x2b\0\0\x01\0\x08\0data\0\0\0\0",
+        ),
+    };
     let mut held = Vec::new(alloc);
     for number in 0..513 {
-        let mut name = Vec::from_slice(alloc, b"sound/")?;
+        let mut name = Vec::from_slice(alloc, front)?;
         name.extend_from_slice(&numbered(number))?;
-        let bytes = file(alloc, b"", 4)?;
-        if bytes.len() > 1 << 26 {
-            return Err(AllocError);
-        }
+        let bytes = Vec::from_slice(alloc, file)?;
         held.push(MemFile { name, bytes })?;
     }
     Ok(MemFolder::create(held, Vec::from_slice(alloc, &[9_999])?))
 }
 
-// The first of those sounds that is refused, and why.
+// The first of them that is refused, and why.
 fn first_refused<M: Store, F: Folder>(
     table: &mut ResTable,
     store: &mut M,
     paths: &mut Paths<F>,
+    of: Table,
 ) -> Option<(usize, AcquireError)>
     requires { AreHeld (told_mounts F.files paths.old) table.old (M.state store.old) }
 {
     for number in 0..513 {
-        if let Err(error) = sound(table, store, paths, &numbered(number)) {
+        if let Err(error) = ask(table, store, paths, of, &numbered(number)) {
             return Some((number, error));
         }
     }
@@ -302,14 +399,16 @@ fn first_refused<M: Store, F: Folder>(
 }
 
 #[test]
-fn a_table_has_512_names(rt: HostRuntime) -> Result<(), Fail> {
+fn a_table_has_its_names(rt: HostRuntime) -> Result<(), Fail> {
     let alloc = rt.alloc();
-    let mut store = PlainStore::create(alloc, 65_536, ZONE, 768)?;
-    let mut table = ResTable::create(alloc, 11_025)?;
-    let mut paths = path(alloc, many(alloc)?)??;
-    assert_eq!(rt;
-        first_refused(&mut table, &mut store, &mut paths),
-        Some((512, AcquireError::TableFull))
-    );
+    for (of, most) in [(Table::Models, 256), (Table::Sounds, 512)] {
+        let mut store = PlainStore::create(alloc, 131_072, ZONE, 768)?;
+        let mut table = ResTable::create(alloc, 11_025)?;
+        let mut paths = path(alloc, many(alloc, of)?)??;
+        assert_eq!(rt;
+            first_refused(&mut table, &mut store, &mut paths, of),
+            Some((most, AcquireError::TableFull))
+        );
+    }
     Ok(())
 }

@@ -1,7 +1,7 @@
 use Rattle.std.proofs.Common.{ap, arith}
 use Rattle.mem_model.specs.Memory.{Memory}
 use Rattle.res_table.proofs.Holding.{AreHeld-new}
-use Rattle.res_table.proofs.tests.a_table_has_512_names.Goals as goal
+use Rattle.res_table.proofs.tests.a_table_has_its_names.Goals as goal
 
 pub first_refused-requires : goal.first_refused-requires
 first_refused-requires g c =
