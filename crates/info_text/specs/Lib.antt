@@ -1,3 +1,4 @@
 pub mod Dumps
+pub mod Faults
 pub mod Infos
 pub mod Lines

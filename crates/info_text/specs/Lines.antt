@@ -1,16 +1,17 @@
 -- The lines that tell of a resource that was asked for.
-use Rattle.std.specs.Prelude.{ℕ, Bool, true, false, List, [], ◌∷◌, decimal, codes}
+use Rattle.std.specs.Prelude.{ℕ, Bool, true, false, List, [], ◌∷◌, ◌++◌, decimal, codes}
 use Rattle.reply_pieces.specs.Pieces.{joined}
 use Rattle.res_table.specs.declared.answers.Fault.{Fault}
 use Rattle.res_table.specs.declared.answers.Fault.TheVariants as fault
 use Rattle.res_table.specs.declared.answers.Res.{Res}
 use Rattle.res_table.specs.declared.kinds.Kind.{Kind}
 use Rattle.res_table.specs.declared.kinds.Kind.TheVariants as kind
-use Rattle.wav_load.specs.declared.fault.WavFault.{WavFault}
-use Rattle.wav_load.specs.declared.fault.WavFault.TheVariants as wav
+use Rattle.info_text.specs.Faults.{fault_text}
 
 -- the word for a kind
 abbrev pub kind_text : Kind → List ℕ
+kind_text kind.Alias = codes "alias"
+kind_text kind.Sprite = codes "sprite"
 kind_text kind.Sound = codes "sound"
 
 abbrev pub loaded_text : Bool → List ℕ
@@ -21,25 +22,17 @@ abbrev pub resource_text : (name : List ℕ) → Res → List ℕ
 resource_text name res = joined (kind_text res.kind ∷ codes " " ∷ name ∷ codes " " ∷ decimal res.size
     ∷ codes " at " ∷ decimal res.place ∷ codes " " ∷ loaded_text res.loaded ∷ codes "\n" ∷ [])
 
--- what is wrong with a sound
-abbrev pub wav_text : WavFault → List ℕ
-wav_text wav.NotRiff = codes "not riff"
-wav_text wav.NoFmt = codes "no fmt"
-wav_text wav.NotPcm = codes "not pcm"
-wav_text wav.NotMono = codes "not mono"
-wav_text wav.Width = codes "width"
-wav_text wav.NoData = codes "no data"
-wav_text wav.BadLoop = codes "bad loop"
-wav_text wav.TooLong = codes "too long"
-wav_text (wav.Rate rate) = joined (codes "rate " ∷ decimal rate ∷ [])
+-- the word for what a file was taken for
+abbrev pub fault_word : Fault → List ℕ
+fault_word (fault.Alias wrong) = kind_text kind.Alias
+fault_word (fault.Sprite wrong) = kind_text kind.Sprite
+fault_word (fault.Sound wrong) = kind_text kind.Sound
+fault_word (fault.Unbuilt true) = codes "wad"
+fault_word (fault.Unbuilt false) = codes "brush"
 
--- what is wrong, and with what kind of resource
-abbrev pub fault_text : Fault → List ℕ
-fault_text (fault.Sound wrong) = wav_text wrong
-
-abbrev pub fault_kind : Fault → Kind
-fault_kind (fault.Sound wrong) = kind.Sound
+-- of which resource, and what is wrong
+abbrev pub bad_title : (name : List ℕ) → Fault → List ℕ
+bad_title name fault = joined (codes "bad " ∷ fault_word fault ∷ codes " " ∷ name ∷ codes ": " ∷ [])
 
 abbrev pub bad_text : (name : List ℕ) → Fault → List ℕ
-bad_text name fault = joined (codes "bad " ∷ kind_text (fault_kind fault) ∷ codes " " ∷ name
-    ∷ codes ": " ∷ fault_text fault ∷ codes "\n" ∷ [])
+bad_text name fault = bad_title name fault ++ (fault_text fault ++ codes "\n")

@@ -1,15 +1,81 @@
 // What an image says of a resource.
 ghost use Rattle.std.specs.Prelude.{◌≡◌, ◌≤◌, length};
+ghost use Rattle.alias_load.specs.Headers.{header_in as alias_in};
 ghost use Rattle.reply_pieces.specs.Pieces.{piece_text, PutsText};
 ghost use Rattle.res_table.specs.Images.{IsImage};
-ghost use Rattle.wav_load.specs.Headers.{header_in};
-ghost use Rattle.info_text.specs.Infos.{info_text, number_or_none, sound_text};
+ghost use Rattle.sprite_load.specs.Headers.{header_in as sprite_in};
+ghost use Rattle.wav_load.specs.Headers.{header_in as sound_in};
+ghost use Rattle.info_text.specs.Infos.{alias_text, info_text, number_or_none, sound_text, sprite_text};
 
+use alias_load::alias_header;
 use base_fields::GameName;
 use outside_io::{Sink, SinkFailed};
 use reply_pieces::{Piece, put_all};
 use res_table::Kind;
+use sprite_load::sprite_header;
 use wav_load::sound_header;
+
+// Puts `alias NAME skins A width B height C verts D tris E frames F pictures G poses H`.
+pub(crate) fn info_alias<O: Sink>(
+    name: &GameName,
+    image: &[u8],
+    out: &mut O,
+) -> Result<(), SinkFailed>
+    requires { 88 ≤ length image.now }
+    ensures { PutsText O.Sink (alias_text name.now (alias_in image.now)) out.old out.new result }
+{
+    let header = alias_header(image);
+    put_all(
+        out,
+        &[
+            Piece::Text(b"alias "),
+            Piece::Text(name.bytes()),
+            Piece::Text(b" skins "),
+            Piece::Number(u64::from(header.skins)),
+            Piece::Text(b" width "),
+            Piece::Number(u64::from(header.width)),
+            Piece::Text(b" height "),
+            Piece::Number(u64::from(header.height)),
+            Piece::Text(b" verts "),
+            Piece::Number(u64::from(header.vertices)),
+            Piece::Text(b" tris "),
+            Piece::Number(u64::from(header.triangles)),
+            Piece::Text(b" frames "),
+            Piece::Number(u64::from(header.frames)),
+            Piece::Text(b" pictures "),
+            Piece::Number(u64::from(header.pictures)),
+            Piece::Text(b" poses "),
+            Piece::Number(u64::from(header.poses)),
+            Piece::Text(b"\n"),
+        ],
+    )
+}
+
+// Puts `sprite NAME type A frames B pictures C`.
+pub(crate) fn info_sprite<O: Sink>(
+    name: &GameName,
+    image: &[u8],
+    out: &mut O,
+) -> Result<(), SinkFailed>
+    requires { 36 ≤ length image.now }
+    ensures { PutsText O.Sink (sprite_text name.now (sprite_in image.now)) out.old out.new result }
+{
+    let header = sprite_header(image);
+    put_all(
+        out,
+        &[
+            Piece::Text(b"sprite "),
+            Piece::Text(name.bytes()),
+            Piece::Text(b" type "),
+            Piece::Number(u64::from(header.kind)),
+            Piece::Text(b" frames "),
+            Piece::Number(u64::from(header.frames)),
+            Piece::Text(b" pictures "),
+            Piece::Number(u64::from(header.pictures)),
+            Piece::Text(b"\n"),
+        ],
+    )
+}
 
 // The number, or that there is none.
 fn number_or_none(number: Option<u32>) -> Piece<'static>
@@ -28,7 +94,7 @@ pub(crate) fn info_sound<O: Sink>(
     out: &mut O,
 ) -> Result<(), SinkFailed>
     requires { 20 ≤ length image.now }
-    ensures { PutsText O.Sink (sound_text name.now (header_in image.now)) out.old out.new result }
+    ensures { PutsText O.Sink (sound_text name.now (sound_in image.now)) out.old out.new result }
 {
     let header = sound_header(image);
     put_all(
@@ -49,8 +115,15 @@ pub(crate) fn info_sound<O: Sink>(
     )
 }
 
-/// Puts what the image of a resource says of it. Of a sound it is `sound NAME length L loop P speed S width W`: its length
-/// in samples, the sample at which its loop begins or `none`, its samples a second, and the bytes of a sample.
+/// Puts what the image of a resource says of it.
+///
+/// - Of an alias model it is `alias NAME skins A width B height C verts D tris E frames F pictures G poses H`: how many
+///   skins it has, the width and the height of their pictures, the vertices of a pose, how many triangles and frames it
+///   has, the pictures of all skins, and the poses of all frames.
+/// - Of a sprite it is `sprite NAME type A frames B pictures C`: how it is turned to the view, how many frames it has,
+///   and the pictures of all frames.
+/// - Of a sound it is `sound NAME length L loop P speed S width W`: its length in samples, the sample at which its loop
+///   begins or `none`, its samples a second, and the bytes of a sample.
 ///
 /// It takes no memory. After an error a front of the text was put.
 pub fn info<O: Sink>(
@@ -63,6 +136,8 @@ pub fn info<O: Sink>(
     ensures { PutsText O.Sink (info_text kind name.now image.now) out.old out.new result }
 {
     match kind {
+        Kind::Alias => info_alias(name, image, out),
+        Kind::Sprite => info_sprite(name, image, out),
         Kind::Sound => info_sound(name, image, out),
     }
 }

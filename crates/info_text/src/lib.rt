@@ -1,8 +1,9 @@
-//! The texts that tell of a resource: that it is there, why the bytes of a file are none, its image in hexadecimal digits, and
-//! what the image says of it.
+//! The texts that tell of a resource: that it is there, why the bytes of a file are none, its image in hexadecimal
+//! digits, and what the image says of it.
 #![tactic(auto)]
 
 mod dumps;
+mod faults;
 mod infos;
 mod lines;
 #[cfg(test)]

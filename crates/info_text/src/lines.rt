@@ -1,19 +1,20 @@
 // The lines that tell of a resource that was asked for.
 ghost use Rattle.std.specs.Prelude.{◌≡◌};
-ghost use Rattle.reply_pieces.specs.Pieces.{text_of, PutsText};
-ghost use Rattle.info_text.specs.Lines.{bad_text, fault_kind, fault_text, kind_text, loaded_text, resource_text};
-ghost use Rattle.info_text.specs.Lines.{wav_text};
+ghost use Rattle.reply_pieces.specs.Pieces.{PutsText};
+ghost use Rattle.info_text.specs.Lines.{bad_text, bad_title, fault_word, kind_text, loaded_text, resource_text};
 
+use crate::faults::fault_pieces;
 use base_fields::GameName;
 use outside_io::{Sink, SinkFailed};
 use reply_pieces::{Piece, put_all};
 use res_table::{Fault, Kind, Res};
-use wav_load::WavFault;
 
 fn kind_text(kind: Kind) -> &'static [u8]
     ensures { result.now ≡ kind_text kind }
 {
     match kind {
+        Kind::Alias => b"alias",
+        Kind::Sprite => b"sprite",
         Kind::Sound => b"sound",
     }
 }
@@ -24,8 +25,8 @@ fn loaded_text(loaded: bool) -> &'static [u8]
     if loaded { b"loaded" } else { b"present" }
 }
 
-/// Puts `KIND NAME SIZE at PLACE loaded` of a resource that was loaded now, and with `present` of one that was there: the size
-/// of its image in bytes, and the place of that.
+/// Puts `KIND NAME SIZE at PLACE loaded` of a resource that was loaded now, and with `present` of one that was there. KIND
+/// is `alias`, `sprite` or `sound`, and the size is that of its image in bytes, which begins at the place.
 ///
 /// It takes no memory. After an error a front of the text was put.
 pub fn put_resource<O: Sink>(name: &GameName, res: &Res, out: &mut O) -> Result<(), SinkFailed>
@@ -48,52 +49,50 @@ pub fn put_resource<O: Sink>(name: &GameName, res: &Res, out: &mut O) -> Result<
     )
 }
 
-// What is wrong with a sound.
-fn wav_pieces(fault: WavFault) -> [Piece<'static>; 2]
-    ensures { text_of result ≡ wav_text fault }
-{
-    let text: &'static [u8] = match fault {
-        WavFault::NotRiff => b"not riff",
-        WavFault::NoFmt => b"no fmt",
-        WavFault::NotPcm => b"not pcm",
-        WavFault::NotMono => b"not mono",
-        WavFault::Width => b"width",
-        WavFault::NoData => b"no data",
-        WavFault::BadLoop => b"bad loop",
-        WavFault::TooLong => b"too long",
-        WavFault::Rate { rate } => return [Piece::Text(b"rate "), Piece::Number(u64::from(rate))],
-    };
-    [Piece::Text(text), Piece::Text(b"")]
-}
-
-// What is wrong, and with what kind of resource.
-fn fault_pieces(fault: Fault) -> (Kind, [Piece<'static>; 2])
-    ensures kind { result.0 ≡ fault_kind fault }
-    ensures text { text_of result.1 ≡ fault_text fault }
+// The word for what a file was taken for.
+fn fault_word(fault: Fault) -> &'static [u8]
+    ensures { result.now ≡ fault_word fault }
 {
     match fault {
-        Fault::Sound(fault) => (Kind::Sound, wav_pieces(fault)),
+        Fault::Alias(_) => kind_text(Kind::Alias),
+        Fault::Sprite(_) => kind_text(Kind::Sprite),
+        Fault::Sound(_) => kind_text(Kind::Sound),
+        Fault::Unbuilt { wad: true } => b"wad",
+        Fault::Unbuilt { wad: false } => b"brush",
     }
 }
 
-/// Puts `bad KIND NAME: FAULT`, of a file whose bytes are no resource of their kind.
+fn put_title<O: Sink>(name: &GameName, fault: Fault, out: &mut O) -> Result<(), SinkFailed>
+    ensures { PutsText O.Sink (bad_title name.now fault) out.old out.new result }
+{
+    put_all(
+        out,
+        &[
+            Piece::Text(b"bad "),
+            Piece::Text(fault_word(fault)),
+            Piece::Text(b" "),
+            Piece::Text(name.bytes()),
+            Piece::Text(b": "),
+        ],
+    )
+}
+
+/// Puts `bad KIND NAME: FAULT` of a file whose bytes are no resource of their kind.
+///
+/// - Of an alias model the fault is `short`, `version V` with the version that was found, `header FIELD` (`numskins`,
+///   `skinwidth`, `skinheight`, `numverts`, `numtris` or `numframes`), `truncated PART` (`skin`, `st`, `triangle` or
+///   `frame`), `group PART R`, `interval PART R`, or `triangle R`. R is the row in the part, from 0 on.
+/// - Of a sprite it is `short`, `version V`, `header numframes`, `truncated frame`, `group frame R`, `interval frame R`
+///   or `size frame R`.
+/// - Of a sound it is `not riff`, `no fmt`, `not pcm`, `not mono`, `width`, `no data`, `bad loop`, `too long`, or
+///   `rate S` with its samples a second.
+/// - Of a model that isn't built it is `not built`, and KIND is `wad` or `brush`.
 ///
 /// It takes no memory. After an error a front of the text was put.
 pub fn put_bad<O: Sink>(name: &GameName, fault: Fault, out: &mut O) -> Result<(), SinkFailed>
     ensures { PutsText O.Sink (bad_text name.now fault) out.old out.new result }
 {
-    let (kind, [first, second]) = fault_pieces(fault);
-    put_all(
-        out,
-        &[
-            Piece::Text(b"bad "),
-            Piece::Text(kind_text(kind)),
-            Piece::Text(b" "),
-            Piece::Text(name.bytes()),
-            Piece::Text(b": "),
-            first,
-            second,
-            Piece::Text(b"\n"),
-        ],
-    )
+    put_title(name, fault, out)?;
+    put_all(out, &fault_pieces(fault))?;
+    out.put(b"\n")
 }

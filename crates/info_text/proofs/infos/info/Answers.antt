@@ -1,5 +1,11 @@
-use Rattle.info_text.proofs.ImageLaws.{sound_long}
+use Rattle.info_text.proofs.ImageLaws.{alias_long, sprite_long, sound_long}
 use Rattle.info_text.proofs.infos.info.Goals as goal
 
+pub info_alias-requires : goal.info_alias-requires
+info_alias-requires g c = alias_long c.args.image.now (rw c.in-Alias.is at c.requires)
+
+pub info_sprite-requires : goal.info_sprite-requires
+info_sprite-requires g c = sprite_long c.args.image.now (rw c.in-Sprite.is at c.requires)
+
 pub info_sound-requires : goal.info_sound-requires
-info_sound-requires g c = sound_long c.args.kind c.args.image.now c.requires
+info_sound-requires g c = sound_long c.args.image.now (rw c.in-Sound.is at c.requires)
