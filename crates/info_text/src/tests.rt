@@ -1,9 +1,12 @@
 use super::*;
-use crate::infos::info_sound;
+use crate::infos::{info_alias, info_sound, info_sprite};
+use alias_load::{AliasFault, AliasField, AliasPart};
 use base_fields::game_name;
 use outside_io::MemSink;
 use res_table::{Fault, Kind, Res};
+use sprite_load::SpriteFault;
 use std::alloc::{AllocError, Global};
+use std::process::Abort;
 use std::test::Fail;
 use wav_load::WavFault;
 
@@ -22,6 +25,135 @@ const SECOND: &[u8] = b"202122232425262728292a2b2c2d2e2f303132333435363738393a3b
 const LENGTH: &[u8] = b"\x02\0\0\0";
 
 const SPEED: &[u8] = b"\x11\x2b\0\0\x01\0\0\0\0\0\0\0\0\xff";
+
+// The faults of each kind, and how each is told.
+const ALIAS_FAULTS: &[(AliasFault, &[u8])] = &[
+    (AliasFault::Short, b"short"),
+    (AliasFault::Version { found: 0 }, b"version 0"),
+    (
+        AliasFault::Version {
+            found: 4_294_967_295,
+        },
+        b"version 4294967295",
+    ),
+    (
+        AliasFault::Header {
+            field: AliasField::Numskins,
+        },
+        b"header numskins",
+    ),
+    (
+        AliasFault::Header {
+            field: AliasField::Skinwidth,
+        },
+        b"header skinwidth",
+    ),
+    (
+        AliasFault::Header {
+            field: AliasField::Skinheight,
+        },
+        b"header skinheight",
+    ),
+    (
+        AliasFault::Header {
+            field: AliasField::Numverts,
+        },
+        b"header numverts",
+    ),
+    (
+        AliasFault::Header {
+            field: AliasField::Numtris,
+        },
+        b"header numtris",
+    ),
+    (
+        AliasFault::Header {
+            field: AliasField::Numframes,
+        },
+        b"header numframes",
+    ),
+    (
+        AliasFault::Truncated {
+            part: AliasPart::Skin,
+        },
+        b"truncated skin",
+    ),
+    (
+        AliasFault::Truncated {
+            part: AliasPart::St,
+        },
+        b"truncated st",
+    ),
+    (
+        AliasFault::Truncated {
+            part: AliasPart::Triangle,
+        },
+        b"truncated triangle",
+    ),
+    (
+        AliasFault::Truncated {
+            part: AliasPart::Frame,
+        },
+        b"truncated frame",
+    ),
+    (
+        AliasFault::Group {
+            part: AliasPart::Skin,
+            row: 0,
+        },
+        b"group skin 0",
+    ),
+    (
+        AliasFault::Group {
+            part: AliasPart::Frame,
+            row: 1023,
+        },
+        b"group frame 1023",
+    ),
+    (
+        AliasFault::Interval {
+            part: AliasPart::Skin,
+            row: 255,
+        },
+        b"interval skin 255",
+    ),
+    (
+        AliasFault::Interval {
+            part: AliasPart::Frame,
+            row: 2,
+        },
+        b"interval frame 2",
+    ),
+    (AliasFault::Triangle { row: 65_535 }, b"triangle 65535"),
+];
+
+const SPRITE_FAULTS: &[(SpriteFault, &[u8])] = &[
+    (SpriteFault::Short, b"short"),
+    (SpriteFault::Version { found: 2 }, b"version 2"),
+    (SpriteFault::Frames, b"header numframes"),
+    (SpriteFault::Truncated, b"truncated frame"),
+    (SpriteFault::Group { row: 0 }, b"group frame 0"),
+    (SpriteFault::Interval { row: 1 }, b"interval frame 1"),
+    (SpriteFault::Size { row: 1023 }, b"size frame 1023"),
+];
+
+const WAV_FAULTS: &[(WavFault, &[u8])] = &[
+    (WavFault::NotRiff, b"not riff"),
+    (WavFault::NoFmt, b"no fmt"),
+    (WavFault::NotPcm, b"not pcm"),
+    (WavFault::NotMono, b"not mono"),
+    (WavFault::Width, b"width"),
+    (WavFault::NoData, b"no data"),
+    (WavFault::BadLoop, b"bad loop"),
+    (WavFault::TooLong, b"too long"),
+    (WavFault::Rate { rate: 0 }, b"rate 0"),
+    (
+        WavFault::Rate {
+            rate: 4_294_967_295,
+        },
+        b"rate 4294967295",
+    ),
+];
 
 fn joined(alloc: Global, parts: &[&[u8]]) -> Result<Vec<u8>, AllocError> {
     let mut text = Vec::new(alloc);
@@ -113,22 +245,90 @@ fn a_sound_has_its_line(rt: HostRuntime) -> Result<(), Fail> {
     Ok(())
 }
 
+// Bytes that aren't told stand between the numbers of each image.
+#[test]
+fn an_alias_model_has_its_line(rt: HostRuntime) -> Result<(), Fail> {
+    let alloc = rt.alloc();
+    let name = game_name(b"x.mdl").expect(&rt, "a name");
+    let counts: &[u8] = b"\x03\0\0\0\x40\x01\0\0\xc8\0\0\0\xd0\x07\0\0\0\0\x01\0\0\x04\0\0";
+    let sums: &[u8] = b"\xff\xff\xff\xff\x01\x04\0\0";
+    let image = joined(alloc, &[&BYTES[..44], counts, &BYTES[1..13], sums])?;
+    assert!(rt; image.len() >= 88);
+    let text: &[u8] = b"alias x.mdl skins 3 width 320 height 200 verts 2000 tris 65536 frames 1024 \
+        pictures 4294967295 poses 1025\n";
+    let mut out = MemSink::create(alloc, 200, Vec::new(alloc))?;
+    info_alias(&name, &image, &mut out)?;
+    assert_eq!(rt; out.got(), text);
+    let mut short = MemSink::create(alloc, 30, Vec::new(alloc))?;
+    assert!(rt; info_alias(&name, &image, &mut short).is_err());
+    assert_eq!(rt; short.got(), &text[..30]);
+    Ok(())
+}
+
+#[test]
+fn a_sprite_has_its_line(rt: HostRuntime) -> Result<(), Fail> {
+    let alloc = rt.alloc();
+    let name = game_name(b"x.spr").expect(&rt, "a name");
+    let kind: &[u8] = b"\x04\0\0\0";
+    let frames: &[u8] = b"\0\x04\0\0";
+    let pictures: &[u8] = b"\x01\0\x10\0";
+    let parts = [
+        &BYTES[..4],
+        kind,
+        &BYTES[1..13],
+        frames,
+        &BYTES[1..9],
+        pictures,
+    ];
+    let image = joined(alloc, &parts)?;
+    assert!(rt; image.len() >= 36);
+    let text: &[u8] = b"sprite x.spr type 4 frames 1024 pictures 1048577\n";
+    let mut out = MemSink::create(alloc, 100, Vec::new(alloc))?;
+    info_sprite(&name, &image, &mut out)?;
+    assert_eq!(rt; out.got(), text);
+    let mut short = MemSink::create(alloc, 30, Vec::new(alloc))?;
+    assert!(rt; info_sprite(&name, &image, &mut short).is_err());
+    assert_eq!(rt; short.got(), &text[..30]);
+    Ok(())
+}
+
 #[test]
 fn a_resource_has_its_line(rt: HostRuntime) -> Result<(), Fail> {
     let alloc = rt.alloc();
-    let name = game_name(b"a/x.wav").expect(&rt, "a name");
-    let cases: [(u32, u32, bool, &[u8]); 2] = [
-        (22, 49_208, true, b"sound a/x.wav 22 at 49208 loaded\n"),
+    let name = game_name(b"a/x.y").expect(&rt, "a name");
+    let cases: [(Kind, u32, u32, bool, &[u8]); 4] = [
         (
+            Kind::Alias,
+            188,
+            112,
+            true,
+            b"alias a/x.y 188 at 112 loaded\n",
+        ),
+        (
+            Kind::Sprite,
+            73,
+            48,
+            false,
+            b"sprite a/x.y 73 at 48 present\n",
+        ),
+        (
+            Kind::Sound,
+            22,
+            49_208,
+            true,
+            b"sound a/x.y 22 at 49208 loaded\n",
+        ),
+        (
+            Kind::Sound,
             4_294_967_295,
             0,
             false,
-            b"sound a/x.wav 4294967295 at 0 present\n",
+            b"sound a/x.y 4294967295 at 0 present\n",
         ),
     ];
-    for (size, place, loaded, text) in cases {
+    for (kind, size, place, loaded, text) in cases {
         let res = Res {
-            kind: Kind::Sound,
+            kind,
             size,
             place,
             loaded,
@@ -140,35 +340,67 @@ fn a_resource_has_its_line(rt: HostRuntime) -> Result<(), Fail> {
     Ok(())
 }
 
+// A fault of `x` is told by these parts of a line, and by a front of them where there is no more room.
+fn tells(rt: &impl Abort, alloc: Global, fault: Fault, parts: &[&[u8]]) -> Result<(), Fail> {
+    let name = game_name(b"x").expect(rt, "a name");
+    let text = joined(alloc, parts)?;
+    let mut out = MemSink::create(alloc, 100, Vec::new(alloc))?;
+    put_bad(&name, fault, &mut out)?;
+    assert_eq!(rt; out.got(), text.as_slice());
+    let mut short = MemSink::create(alloc, 12, Vec::new(alloc))?;
+    assert!(rt; put_bad(&name, fault, &mut short).is_err());
+    assert_eq!(rt; short.got().len(), 12);
+    assert!(rt; text.starts_with(short.got()));
+    Ok(())
+}
+
 #[test]
-fn each_fault_has_its_line(rt: HostRuntime) -> Result<(), Fail> {
-    let alloc = rt.alloc();
-    let name = game_name(b"x.wav").expect(&rt, "a name");
-    let cases: [(WavFault, &[u8]); 10] = [
-        (WavFault::NotRiff, b"not riff"),
-        (WavFault::NoFmt, b"no fmt"),
-        (WavFault::NotPcm, b"not pcm"),
-        (WavFault::NotMono, b"not mono"),
-        (WavFault::Width, b"width"),
-        (WavFault::NoData, b"no data"),
-        (WavFault::BadLoop, b"bad loop"),
-        (WavFault::TooLong, b"too long"),
-        (WavFault::Rate { rate: 0 }, b"rate 0"),
-        (
-            WavFault::Rate {
-                rate: 4_294_967_295,
-            },
-            b"rate 4294967295",
-        ),
+fn each_fault_of_an_alias_model_has_its_line(rt: HostRuntime) -> Result<(), Fail> {
+    for &(fault, wrong) in ALIAS_FAULTS {
+        tells(
+            &rt,
+            rt.alloc(),
+            Fault::Alias(fault),
+            &[b"bad alias x: ", wrong, b"\n"],
+        )?;
+    }
+    Ok(())
+}
+
+#[test]
+fn each_fault_of_a_sprite_has_its_line(rt: HostRuntime) -> Result<(), Fail> {
+    for &(fault, wrong) in SPRITE_FAULTS {
+        tells(
+            &rt,
+            rt.alloc(),
+            Fault::Sprite(fault),
+            &[b"bad sprite x: ", wrong, b"\n"],
+        )?;
+    }
+    Ok(())
+}
+
+#[test]
+fn each_fault_of_a_sound_has_its_line(rt: HostRuntime) -> Result<(), Fail> {
+    for &(fault, wrong) in WAV_FAULTS {
+        tells(
+            &rt,
+            rt.alloc(),
+            Fault::Sound(fault),
+            &[b"bad sound x: ", wrong, b"\n"],
+        )?;
+    }
+    Ok(())
+}
+
+#[test]
+fn a_model_that_is_not_built_has_its_line(rt: HostRuntime) -> Result<(), Fail> {
+    let cases: [(bool, &[u8]); 2] = [
+        (true, b"bad wad x: not built\n"),
+        (false, b"bad brush x: not built\n"),
     ];
-    for (fault, wrong) in cases {
-        let text = joined(alloc, &[b"bad sound x.wav: ", wrong, b"\n"])?;
-        let mut out = MemSink::create(alloc, 100, Vec::new(alloc))?;
-        put_bad(&name, Fault::Sound(fault), &mut out)?;
-        assert_eq!(rt; out.got(), text.as_slice());
-        let mut short = MemSink::create(alloc, 12, Vec::new(alloc))?;
-        assert!(rt; put_bad(&name, Fault::Sound(fault), &mut short).is_err());
-        assert_eq!(rt; short.got(), &text[..12]);
+    for (wad, text) in cases {
+        tells(&rt, rt.alloc(), Fault::Unbuilt { wad }, &[text])?;
     }
     Ok(())
 }
