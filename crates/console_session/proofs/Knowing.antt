@@ -18,7 +18,7 @@ use Rattle.res_table.specs.Acquire.{Acquired, acquire, answered_after, answered_
 use Rattle.res_table.specs.Images.{file_of}
 use Rattle.res_table.specs.declared.kinds.Kind.{Kind}
 use Rattle.res_table.specs.declared.kinds.Table.{Table}
-use Rattle.res_table.specs.declared.kinds.Table.TheVariants.{Sounds}
+use Rattle.res_table.specs.declared.kinds.Table.TheVariants.{Models, Sounds}
 use Rattle.console_session.specs.States.{State, Done, Did, Told, Untold, says}
 use Rattle.console_session.specs.Commands.{acquire_named, answer_acquire, bad_name, by_image, table_in, with_acquired, word_at, with_load, with_told, by_load, shown_file, inserted_file, of_number_and_name, reserve_block, video_block, list_aliases, make_alias, make_cvar, cvar_text, by_cvar, by_alias, by_verb, by_words, by_text, command, name_in, number_in}
 use Rattle.console_session.specs.Verbs.{verb_of}
@@ -110,6 +110,7 @@ module _ (s : State) (mounts : List Mount) (told : AllTold s mounts) where
     knows_verb (Some verb.Path) = refl
     knows_verb (Some verb.Flush) = refl
     knows_verb (Some verb.Sound) = knows_acquire Sounds (name_in 1 words)
+    knows_verb (Some verb.Model) = knows_acquire Models (name_in 1 words)
     knows_verb (Some verb.Info) = knows_image info_text (table_in 1 words) (name_in 2 words)
     knows_verb (Some verb.Dump) = knows_image (λ kind. dump_text) (table_in 1 words) (name_in 2 words)
 

@@ -29,7 +29,7 @@ use Rattle.res_table.specs.declared.answers.AcquireError.TheVariants as acquire_
 use Rattle.res_table.specs.declared.answers.Res.{Res}
 use Rattle.res_table.specs.declared.kinds.Kind.{Kind}
 use Rattle.res_table.specs.declared.kinds.Table.{Table}
-use Rattle.res_table.specs.declared.kinds.Table.TheVariants.{Sounds}
+use Rattle.res_table.specs.declared.kinds.Table.TheVariants.{Models, Sounds}
 use Rattle.console_session.specs.Verbs.{verb_of}
 use Rattle.console_session.specs.States.{State, Did, Told, Untold, says, takes, loads}
 use Rattle.console_session.specs.declared.ends.Next.TheVariants.{Goes, Waits, Quits}
@@ -320,9 +320,15 @@ name_in number words = lawful_name (word_at number words)
 abbrev pub number_in : ℕ → List (List ℕ) → Option ℕ
 number_in number words = number_of (word_at number words)
 
--- the table that the word of this number names, in exact case
+-- the table that a word names, in exact case
+abbrev pub table_of : List ℕ → Option Table
+table_of word =
+    if bytes_eq word (codes "model") then Some Models
+    else if bytes_eq word (codes "sound") then Some Sounds
+    else None
+
 abbrev pub table_in : ℕ → List (List ℕ) → Option Table
-table_in number words = if bytes_eq (word_at number words) (codes "sound") then Some Sounds else None
+table_in number words = table_of (word_at number words)
 
 -- one arm for each command
 abbrev pub by_verb : Option Verb → List (List ℕ) → State → Did
@@ -340,6 +346,7 @@ by_verb (Some verb.Alias) words s = answer_alias words s
 by_verb (Some verb.Path) words s = answer_path s
 by_verb (Some verb.Flush) words s = answer_flush s
 by_verb (Some verb.Sound) words s = answer_acquire Sounds (name_in 1 words) s
+by_verb (Some verb.Model) words s = answer_acquire Models (name_in 1 words) s
 by_verb (Some verb.Info) words s = answer_info (table_in 1 words) (name_in 2 words) s
 by_verb (Some verb.Dump) words s = answer_dump (table_in 1 words) (name_in 2 words) s
 

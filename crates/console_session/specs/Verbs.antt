@@ -27,6 +27,7 @@ verbs =
     named (codes "path") verb.Path ∷
     named (codes "flush") verb.Flush ∷
     named (codes "sound") verb.Sound ∷
+    named (codes "model") verb.Model ∷
     named (codes "info") verb.Info ∷
     named (codes "dump") verb.Dump ∷
     []

@@ -1,7 +1,7 @@
 // The commands by their names.
-ghost use Rattle.std.specs.Prelude.{◌≡◌};
+ghost use Rattle.std.specs.Prelude.{◌≡◌, map};
 ghost use Rattle.std.specs.Str.{str_eq_ignore_ascii_case};
-ghost use Rattle.console_session.specs.Verbs.{verb_of};
+ghost use Rattle.console_session.specs.Verbs.{named, verb_among, verb_of};
 
 /// A command.
 #[derive(Clone, Copy, Debug, PartialEq, Eq)]
@@ -19,9 +19,30 @@ pub enum Verb {
     Path,
     Flush,
     Sound,
+    Model,
     Info,
     Dump,
 }
+
+// Each command with its name.
+static VERBS: [(&[u8], Verb); 16] = [
+    (b"file", Verb::File),
+    (b"echo", Verb::Echo),
+    (b"exec", Verb::Exec),
+    (b"wait", Verb::Wait),
+    (b"quit", Verb::Quit),
+    (b"reserve", Verb::Reserve),
+    (b"video", Verb::Video),
+    (b"level", Verb::Level),
+    (b"report", Verb::Report),
+    (b"alias", Verb::Alias),
+    (b"path", Verb::Path),
+    (b"flush", Verb::Flush),
+    (b"sound", Verb::Sound),
+    (b"model", Verb::Model),
+    (b"info", Verb::Info),
+    (b"dump", Verb::Dump),
+];
 
 // Whether the two are the same but for the case of their letters.
 fn is_same(word: &[u8], name: &[u8]) -> bool
@@ -30,54 +51,22 @@ fn is_same(word: &[u8], name: &[u8]) -> bool
     word.len() == name.len() && word.eq_ignore_ascii_case(name)
 }
 
+// The first of these that a word names.
+fn verb_among(mut verbs: &[(&[u8], Verb)], word: &[u8]) -> Option<Verb>
+    ensures { result ≡ verb_among (map (λ n. named n.0.now n.1) verbs.entry.now) word.now }
+{
+    'verbs: while let [(name, verb), rest @ ..] = verbs {
+        if is_same(word, name) {
+            return Some(*verb);
+        }
+        verbs = rest;
+    }
+    None
+}
+
 /// The command that a word names, in any case.
 pub fn find_verb(word: &[u8]) -> Option<Verb>
     ensures { result ≡ verb_of word.now }
 {
-    if is_same(word, b"file") {
-        return Some(Verb::File);
-    }
-    if is_same(word, b"echo") {
-        return Some(Verb::Echo);
-    }
-    if is_same(word, b"exec") {
-        return Some(Verb::Exec);
-    }
-    if is_same(word, b"wait") {
-        return Some(Verb::Wait);
-    }
-    if is_same(word, b"quit") {
-        return Some(Verb::Quit);
-    }
-    if is_same(word, b"reserve") {
-        return Some(Verb::Reserve);
-    }
-    if is_same(word, b"video") {
-        return Some(Verb::Video);
-    }
-    if is_same(word, b"level") {
-        return Some(Verb::Level);
-    }
-    if is_same(word, b"report") {
-        return Some(Verb::Report);
-    }
-    if is_same(word, b"alias") {
-        return Some(Verb::Alias);
-    }
-    if is_same(word, b"path") {
-        return Some(Verb::Path);
-    }
-    if is_same(word, b"flush") {
-        return Some(Verb::Flush);
-    }
-    if is_same(word, b"sound") {
-        return Some(Verb::Sound);
-    }
-    if is_same(word, b"info") {
-        return Some(Verb::Info);
-    }
-    if is_same(word, b"dump") {
-        return Some(Verb::Dump);
-    }
-    None
+    verb_among(&VERBS, word)
 }

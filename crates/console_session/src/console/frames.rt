@@ -47,6 +47,7 @@ impl<M: Store, F: Folder> Console<M, F> {
             Some(Verb::Path) => self.list_path(out),
             Some(Verb::Flush) => self.flush_cache(out),
             Some(Verb::Sound) => self.acquire(Table::Sounds, name_in(words, 1), out),
+            Some(Verb::Model) => self.acquire(Table::Models, name_in(words, 1), out),
             Some(Verb::Info) => self.info(table_in(words, 1), name_in(words, 2), out),
             Some(Verb::Dump) => self.dump(table_in(words, 1), name_in(words, 2), out),
         }
@@ -166,10 +167,10 @@ fn number_in(words: &Words<'_>, number: usize) -> Option<u32>
 fn table_in(words: &Words<'_>, number: usize) -> Option<Table>
     ensures { result ≡ table_in number words.now }
 {
-    if words.word(number) == b"sound".as_slice() {
-        Some(Table::Sounds)
-    } else {
-        None
+    match words.word(number) {
+        b"model" => Some(Table::Models),
+        b"sound" => Some(Table::Sounds),
+        _ => None,
     }
 }
 
