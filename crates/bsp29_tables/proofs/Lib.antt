@@ -1,0 +1,4 @@
+mod Examples
+pub mod Checking
+pub mod Cutting
+pub mod TextureLaws

@@ -1,0 +1,21 @@
+use Rattle.std.proofs.Common.{◌<◌, length, sym, ◌∙◌, arith}
+use Rattle.std.proofs.lemmas.Result.{err_from_is_err_and}
+use Rattle.bsp29_tables.specs.Textures.{texture_offsets}
+use Rattle.bsp29_tables.proofs.Checking.{passed_more, failed_here, passed_all}
+use Rattle.bsp29_tables.proofs.Cutting.{length-texture_offsets}
+use Rattle.bsp29_tables.proofs.textures.check_textures.Goals as goal
+
+pub returns-in_err-check_texture : goal.returns-in_err-check_texture
+returns-in_err-check_texture c =
+    let p = err_from_is_err_and c.from_residual.result c.from_residual.ensures.1 in
+    let below : c.loop-texture.texture < length (texture_offsets c.args.lump.now) = rw length-texture_offsets (omega arith) in
+    rw (p.1, p.2)
+    (sym (failed_here 0 _ c.loop-texture.invariant below (rw (← c.offset_of.ensures) (sym c.check_texture.ensures ∙ c.in_err-check_texture.was))))
+
+pub loop-texture-preserved : goal.loop-texture-preserved
+loop-texture-preserved c =
+    let below : c.loop-texture.texture < length (texture_offsets c.args.lump.now) = rw length-texture_offsets (omega arith) in
+    passed_more 0 c.loop-texture.invariant below (rw (← c.offset_of.ensures) (sym c.check_texture.ensures ∙ c.in_ok-check_texture.was))
+
+pub returns : goal.returns
+returns c = sym (passed_all c.loop-texture.invariant (rw length-texture_offsets (omega arith)))

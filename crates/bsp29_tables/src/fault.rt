@@ -1,0 +1,33 @@
+// Why bytes are no brush model.
+
+/// Why a file is refused as a brush model: the first of these that holds, in this order. Lumps are numbered as in the
+/// header, from 0; rows and textures from 0 too.
+#[derive(Clone, Copy, Debug, PartialEq, Eq)]
+pub enum BspFault {
+    /// It has fewer than 124 bytes.
+    Short,
+    /// The version isn't 29.
+    Version { found: u32 },
+    /// The lump isn't empty, and passes the end of the file.
+    LumpOutside { lump: u32 },
+    /// The lump isn't a whole number of rows. It is tested before the next lump is.
+    LumpSize { lump: u32 },
+    /// There are more than 32768 nodes or leafs. It is tested before the next lump is.
+    LumpCount { lump: u32 },
+    /// There is no model.
+    NoModel,
+    /// The texture lump isn't empty, and its count of textures passes its end or is above 4096, or their offsets pass
+    /// its end.
+    TextureTable,
+    /// The 40 bytes of the texture pass the end of the lump, or its pixels do. The pixels are tested behind the size.
+    TextureOutside { texture: u32 },
+    /// The width or the height of the texture is no multiple of 16 or above 16384. It is tested before the next texture
+    /// is.
+    TextureSize { texture: u32 },
+    /// The name of the texture begins with `+`: it is a frame of an animation, and no animations are built.
+    Unbuilt { texture: u32 },
+    /// The row names something that isn't there, or its contents aren't those of a leaf.
+    BadRow { lump: u32, row: u32 },
+    /// The image would have 2 ^ 31 bytes or more.
+    TooLarge,
+}
