@@ -1,8 +1,10 @@
 -- A loop over a list that ends at the first fault.
-use Rattle.std.proofs.Common.{◌≡◌, ℕ, zero, suc, ◌+◌, ◌≤◌, ◌<◌, Bool, false, List, [], ◌∷◌, length, get_or, drop}
+use Rattle.std.proofs.Common.{◌≡◌, ℕ, zero, suc, ◌+◌, ◌≤◌, ◌<◌, Bool, true, false, List, [], ◌∷◌, length, get_or, drop}
 use Rattle.std.proofs.Common.{Ok, Err, refl, sym, ◌∙◌, arith}
-use Rattle.std.specs.List.{AllByRecursion}
+use Rattle.std.specs.Prelude.{Some}
+use Rattle.std.specs.List.{slice_get, AllByRecursion}
 use Rattle.std.proofs.lemmas.List.{drop_more, drop_all}
+use Rattle.std.proofs.lemmas.Option.{slice_get_within, get_or_from_slice_get}
 use Rattle.base_fields.specs.Faults.{first_fault}
 use Rattle.base_fields.proofs.FaultLaws.{passes, unless_ok}
 use Rattle.bsp29_tables.specs.declared.fault.BspFault.{BspFault}
@@ -35,11 +37,16 @@ passed_all {A} {check} {xs} {i} so le = sym so.same ∙ rw (drop_all i xs le) re
 pub all_false : (tests : List (Bool × BspFault)) → none_of tests ≡ fine → AllByRecursion (λ t. t.0 ≡ false) tests
 all_false tests none = passes tests (unless_ok (first_fault tests) tt tt none).0
 
-both_fine : (a b : Checked) → (a ⨾ b) ≡ fine → (a ≡ fine) × (b ≡ fine)
+pub none_false : (tests : List (Bool × BspFault)) → AllByRecursion (λ t. t.0 ≡ false) tests → none_of tests ≡ fine
+none_false [] all = refl
+none_false ((true, fault) ∷ tests) all = absurd cc
+none_false ((false, fault) ∷ tests) all = none_false tests all.1
+
+pub both_fine : (a b : Checked) → (a ⨾ b) ≡ fine → (a ≡ fine) × (b ≡ fine)
 both_fine (Ok tt) b e = (refl, e)
 both_fine (Err fault) b e = absurd cc
 
-pub each_fine : {A : Type 0} (check : ℕ → A → Checked) (k : ℕ) (xs : List A) (n : ℕ) (d : A)
+each_fine : {A : Type 0} (check : ℕ → A → Checked) (k : ℕ) (xs : List A) (n : ℕ) (d : A)
     → each_from check k xs ≡ fine → n < length xs → check (k + n) (get_or xs n d) ≡ fine
 unfolding each_from
 each_fine check k [] n d e lt = absurd (omega arith)
@@ -49,3 +56,28 @@ each_fine check k (x ∷ xs) zero d e lt =
 each_fine check k (x ∷ xs) (suc n) d e lt =
     let same : k + suc n ≡ k + 1 + n = omega arith in
     rw same (each_fine check (k + 1) xs n d (both_fine (check k x) (each_from check (k + 1) xs) e).1 (omega arith))
+
+-- the check of the element of this number
+pub checked_at : {A : Type 0} (check : ℕ → A → Checked) (xs : List A) (n : ℕ) (x : A) → each_from check 0 xs ≡ fine
+    → slice_get xs n ≡ Some x → check n x ≡ fine
+checked_at check xs n x e at =
+    let same : 0 + n ≡ n = omega arith in
+    rw (same, get_or_from_slice_get xs n x x at) at (each_fine check 0 xs n x e (slice_get_within xs n x at))
+
+all_fine_from : {A : Type 0} (check : ℕ → A → Checked) (k : ℕ) (xs : List A)
+    → ((n : ℕ) (x : A) → slice_get xs n ≡ Some x → check (k + n) x ≡ fine) → each_from check k xs ≡ fine
+unfolding each_from
+all_fine_from check k [] each = refl
+all_fine_from check k (x ∷ xs) each =
+    let same : k + 0 ≡ k = omega arith in
+    let here : check k x ≡ fine = rw same at (each 0 x refl) in
+    let next : (n : ℕ) → k + 1 + n ≡ k + suc n = λ n. omega arith in
+    let rest = all_fine_from check (k + 1) xs (λ n y at. rw (next n) (each (suc n) y at)) in
+    rw (here, rest) refl
+
+-- where each finds nothing, all find nothing
+pub all_fine : {A : Type 0} (check : ℕ → A → Checked) (xs : List A)
+    → ((n : ℕ) (x : A) → slice_get xs n ≡ Some x → check n x ≡ fine) → each_from check 0 xs ≡ fine
+all_fine check xs each =
+    let same : (n : ℕ) → 0 + n ≡ n = λ n. omega arith in
+    all_fine_from check 0 xs (λ n x at. rw (same n) (each n x at))

@@ -7,7 +7,7 @@ use Rattle.bsp29_tables.specs.Checks.{fine, each_from}
 use Rattle.bsp29_tables.specs.Lumps.{lump_of, rows_in, lump_check}
 use Rattle.bsp29_tables.specs.Textures.{texture_count, texture_offsets, pixels_at, all_pixels}
 use Rattle.bsp29_tables.specs.Textures.{table_check, texture_check, textures_check, animation_check, animations_check}
-use Rattle.bsp29_tables.specs.Rows.{counts_of, rows_check}
+use Rattle.bsp29_tables.specs.Rows.{counts_of}
 use Rattle.bsp29_tables.specs.Sizes.{image_size}
 use Rattle.bsp29_tables.specs.Order.{check_of}
 
@@ -16,14 +16,15 @@ abbrev file : ℕ → ℕ → ℕ → ℕ → List ℕ → List ℕ
 file version planes planes_length models_length model =
     u32_bytes version
     ++ (replicate 8 0
-    ++ (u32_bytes planes ++ (u32_bytes planes_length ++ (replicate 96 0 ++ (u32_bytes 124 ++ (u32_bytes models_length ++ model))))))
+    ++ (u32_bytes planes
+    ++ (u32_bytes planes_length ++ (replicate 96 0 ++ (u32_bytes 124 ++ (u32_bytes models_length ++ model))))))
 
 abbrev zeros : List ℕ
 zeros = replicate 64 0
 
 least : check_of (file 29 0 0 64 zeros) ≡ fine
 unfolding check_of each_from u32_in lump_of rows_in lump_check texture_count texture_offsets table_check counts_of
-    rows_check image_size
+    image_size
 least = refl
 
 least_size : image_size (file 29 0 0 64 zeros) ≡ 196
@@ -53,7 +54,6 @@ no_model = refl
 -- the model has a face that isn't there
 no_face : check_of (file 29 0 0 64 (replicate 60 0 ++ u32_bytes 1)) ≡ Err (BadRow 14 0)
 unfolding check_of each_from u32_in lump_of rows_in lump_check texture_count texture_offsets table_check counts_of
-    rows_check
 no_face = refl
 
 -- ---- texture lumps

@@ -4,3 +4,5 @@ pub mod Textures
 pub mod Rows
 pub mod Sizes
 pub mod Order
+pub mod First
+pub mod Sound

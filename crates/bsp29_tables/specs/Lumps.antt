@@ -3,6 +3,7 @@ use Rattle.std.specs.Prelude.{ℕ, ◌+◌, ◌*◌, ◌/◌, ◌%◌, Bool, tru
 use Rattle.std.specs.Prelude.{List, [], ◌∷◌, length, map}
 use Rattle.std.specs.List.{range_with_len}
 use Rattle.base_fields.specs.Fields.{field, u32_in}
+use Rattle.bsp29_tables.specs.declared.fault.BspFault.{BspFault}
 use Rattle.bsp29_tables.specs.declared.fault.BspFault.TheVariants.{Short, Version, LumpOutside, LumpSize, LumpCount}
 use Rattle.bsp29_tables.specs.declared.fault.BspFault.TheVariants.{NoModel}
 use Rattle.bsp29_tables.specs.declared.lumps.Lump.{Lump}
@@ -76,11 +77,14 @@ count_of bytes lump = length (rows_of bytes lump)
 
 -- ---- the checks of the header and of the lumps
 
-abbrev pub header_check : List ℕ → Checked
-header_check bytes =
-    none_of ((nat_lt (length bytes) 124, Short)
+abbrev pub header_tests : List ℕ → List (Bool × BspFault)
+header_tests bytes =
+    (nat_lt (length bytes) 124, Short)
     ∷ (not (u32_in bytes 0 == 29), Version (u32_in bytes 0))
-    ∷ [])
+    ∷ []
+
+abbrev pub header_check : List ℕ → Checked
+header_check bytes = none_of (header_tests bytes)
 
 abbrev pub is_outside : List ℕ → Lump → Bool
 is_outside bytes lump =
@@ -95,15 +99,21 @@ is_limited other = false
 abbrev pub has_too_many : List ℕ → Lump → Bool
 has_too_many bytes lump = is_limited lump && nat_lt 32768 (length_of bytes lump / row_size lump)
 
-unfoldable pub lump_check : List ℕ → Lump → Checked
-lump_check bytes lump =
-    none_of ((is_outside bytes lump, LumpOutside (number_of lump))
+abbrev pub lump_tests : List ℕ → Lump → List (Bool × BspFault)
+lump_tests bytes lump =
+    (is_outside bytes lump, LumpOutside (number_of lump))
     ∷ (not (length_of bytes lump % row_size lump == 0), LumpSize (number_of lump))
     ∷ (has_too_many bytes lump, LumpCount (number_of lump))
-    ∷ [])
+    ∷ []
+
+unfoldable pub lump_check : List ℕ → Lump → Checked
+lump_check bytes lump = none_of (lump_tests bytes lump)
 
 abbrev pub lumps_check : List ℕ → Checked
 lumps_check bytes = each_from (λ number lump. lump_check bytes lump) 0 all_lumps
 
+abbrev pub models_tests : List ℕ → List (Bool × BspFault)
+models_tests bytes = (count_of bytes Models == 0, NoModel) ∷ []
+
 abbrev pub models_check : List ℕ → Checked
-models_check bytes = none_of ((count_of bytes Models == 0, NoModel) ∷ [])
+models_check bytes = none_of (models_tests bytes)

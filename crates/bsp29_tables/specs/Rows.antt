@@ -2,13 +2,14 @@
 use Rattle.std.specs.Prelude.{ℕ, suc, ◌+◌, Bool, true, false, not, ◌&&◌, ◌||◌, nat_lt, nat_le, ◌==◌}
 use Rattle.std.specs.Prelude.{ℤ, pos, negsuc, List, [], ◌∷◌, Option, Some, None}
 use Rattle.base_fields.specs.Fields.{u16_in, i16_in, u32_in, i32_in}
+use Rattle.bsp29_tables.specs.declared.fault.BspFault.{BspFault}
 use Rattle.bsp29_tables.specs.declared.fault.BspFault.TheVariants.{BadRow}
 use Rattle.bsp29_tables.specs.declared.lumps.Lump.{Lump}
 use Rattle.bsp29_tables.specs.declared.lumps.Lump.TheVariants.{Planes, Textures, Vertexes, Nodes, Texinfos, Faces}
 use Rattle.bsp29_tables.specs.declared.lumps.Lump.TheVariants.{Clipnodes, Leafs, Marksurfaces, Edges, Surfedges}
 use Rattle.bsp29_tables.specs.declared.lumps.Lump.TheVariants.{Models}
 use Rattle.bsp29_tables.specs.declared.rows.Counts.{Counts}
-use Rattle.bsp29_tables.specs.Checks.{Checked, none_of, ◌⨾◌, each_from}
+use Rattle.bsp29_tables.specs.Checks.{Checked, none_of, each_from}
 use Rattle.bsp29_tables.specs.Lumps.{number_of, lump_of, rows_of, count_of}
 use Rattle.bsp29_tables.specs.Textures.{told_count}
 
@@ -43,12 +44,12 @@ node_passes counts row =
     && nat_le (u16_in row 20 + u16_in row 22) counts.faces
 
 -- where there is no texture lump, each texture passes
-abbrev pub is_texture : Option ℕ → ℕ → Bool
-is_texture None texture = true
-is_texture (Some textures) texture = nat_lt texture textures
+abbrev pub names_texture : Option ℕ → ℕ → Bool
+names_texture None texture = true
+names_texture (Some textures) texture = nat_lt texture textures
 
 abbrev pub texinfo_passes : Counts → List ℕ → Bool
-texinfo_passes counts row = is_texture counts.textures (u32_in row 32)
+texinfo_passes counts row = names_texture counts.textures (u32_in row 32)
 
 abbrev pub face_passes : Counts → List ℕ → Bool
 face_passes counts row =
@@ -107,22 +108,20 @@ row_passes counts other number row = true
 
 -- ---- the checks
 
+abbrev pub row_tests : Counts → Lump → ℕ → List ℕ → List (Bool × BspFault)
+row_tests counts lump number row =
+    (not (row_passes counts lump number row), BadRow (number_of lump) number) ∷ []
+
 abbrev pub row_check : Counts → Lump → ℕ → List ℕ → Checked
-row_check counts lump number row =
-    none_of ((not (row_passes counts lump number row), BadRow (number_of lump) number) ∷ [])
+row_check counts lump number row = none_of (row_tests counts lump number row)
 
 abbrev pub lump_rows_check : List ℕ → Lump → Checked
 lump_rows_check bytes lump = each_from (row_check (counts_of bytes) lump) 0 (rows_of bytes lump)
 
 -- the lumps whose rows name others, in their order
-unfoldable pub rows_check : List ℕ → Checked
-rows_check bytes =
-    lump_rows_check bytes Nodes
-    ⨾ lump_rows_check bytes Texinfos
-    ⨾ lump_rows_check bytes Faces
-    ⨾ lump_rows_check bytes Clipnodes
-    ⨾ lump_rows_check bytes Leafs
-    ⨾ lump_rows_check bytes Marksurfaces
-    ⨾ lump_rows_check bytes Edges
-    ⨾ lump_rows_check bytes Surfedges
-    ⨾ lump_rows_check bytes Models
+abbrev pub naming_lumps : List Lump
+naming_lumps =
+    Nodes ∷ Texinfos ∷ Faces ∷ Clipnodes ∷ Leafs ∷ Marksurfaces ∷ Edges ∷ Surfedges ∷ Models ∷ []
+
+abbrev pub rows_check : List ℕ → Checked
+rows_check bytes = each_from (λ number lump. lump_rows_check bytes lump) 0 naming_lumps

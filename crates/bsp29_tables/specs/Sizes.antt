@@ -1,5 +1,6 @@
 -- How many bytes the image of a brush model has.
-use Rattle.std.specs.Prelude.{ℕ, ◌+◌, ◌*◌, ◌^◌, nat_le, List, [], ◌∷◌}
+use Rattle.std.specs.Prelude.{ℕ, ◌+◌, ◌*◌, ◌^◌, Bool, nat_le, List, [], ◌∷◌}
+use Rattle.bsp29_tables.specs.declared.fault.BspFault.{BspFault}
 use Rattle.bsp29_tables.specs.declared.fault.BspFault.TheVariants.{TooLarge}
 use Rattle.bsp29_tables.specs.declared.lumps.Lump.TheVariants.{Entities, Planes, Textures, Vertexes, Visibility}
 use Rattle.bsp29_tables.specs.declared.lumps.Lump.TheVariants.{Nodes, Texinfos, Faces, Lighting, Clipnodes}
@@ -33,5 +34,8 @@ image_size bytes =
     + 64 * count_of bytes Models
     + 8 * count_of bytes Nodes
 
+abbrev pub size_tests : List ℕ → List (Bool × BspFault)
+size_tests bytes = (nat_le (2 ^ 31) (image_size bytes), TooLarge) ∷ []
+
 abbrev pub size_check : List ℕ → Checked
-size_check bytes = none_of ((nat_le (2 ^ 31) (image_size bytes), TooLarge) ∷ [])
+size_check bytes = none_of (size_tests bytes)

@@ -39,20 +39,27 @@ pixel_count width height = width * height / 64 * 85
 abbrev pub is_frame : List ℕ → ℕ → Bool
 is_frame lump at = slice_index lump at == 43
 
--- the pixels of all textures that aren't missing
 unfoldable pub pixels_at : List ℕ → ℕ → ℕ
 pixels_at lump at = if at == missing then 0 else pixel_count (width_at lump at) (height_at lump at)
 
+-- the pixels of all textures that aren't missing
 abbrev pub all_pixels : List ℕ → ℕ
 all_pixels lump = sum_by (pixels_at lump) (texture_offsets lump)
 
--- the texture is missing, or lies in the lump with sides of at most 16384
-abbrev pub IsInside : List ℕ → ℕ → Type 0
-IsInside lump at =
-    (at ≡ missing)
-    ⊎ ((at + 40 + pixel_count (width_at lump at) (height_at lump at) ≤ length lump)
-    × (width_at lump at ≤ 16384)
-    × (height_at lump at ≤ 16384))
+-- a width or a height is a multiple of 16, and at most 16384
+pub record IsSide (side : ℕ) : Type 0 where
+  pub whole : side % 16 ≡ 0
+  pub most : side ≤ 16384
+
+-- a texture and its pixels lie in the lump
+pub record IsTexture (lump : List ℕ) (at : ℕ) : Type 0 where
+  pub room : at + 40 ≤ length lump
+  pub width : IsSide (width_at lump at)
+  pub height : IsSide (height_at lump at)
+  pub inside : at + 40 + pixel_count (width_at lump at) (height_at lump at) ≤ length lump
+
+abbrev pub HasTexture : List ℕ → ℕ → Type 0
+HasTexture lump at = (at ≡ missing) ⊎ IsTexture lump at
 
 -- ---- the checks
 
@@ -67,7 +74,6 @@ table_tests lump =
 unfoldable pub table_check : List ℕ → Checked
 table_check lump = if length lump == 0 then fine else none_of (table_tests lump)
 
--- a width or a height has to be a multiple of 16, and at most 16384
 abbrev pub is_bad_side : ℕ → Bool
 is_bad_side side = not (side % 16 == 0) || nat_lt 16384 side
 
@@ -84,8 +90,11 @@ texture_check lump texture at = if at == missing then fine else none_of (texture
 abbrev pub textures_check : List ℕ → Checked
 textures_check lump = each_from (texture_check lump) 0 (texture_offsets lump)
 
+abbrev pub animation_tests : List ℕ → ℕ → ℕ → List (Bool × BspFault)
+animation_tests lump texture at = (not (at == missing) && is_frame lump at, Unbuilt texture) ∷ []
+
 unfoldable pub animation_check : List ℕ → ℕ → ℕ → Checked
-animation_check lump texture at = none_of ((not (at == missing) && is_frame lump at, Unbuilt texture) ∷ [])
+animation_check lump texture at = none_of (animation_tests lump texture at)
 
 abbrev pub animations_check : List ℕ → Checked
 animations_check lump = each_from (animation_check lump) 0 (texture_offsets lump)

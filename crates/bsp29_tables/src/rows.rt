@@ -30,6 +30,19 @@ pub(crate) struct Counts {
     pub(crate) surfedges: u32,
 }
 
+// The lumps whose rows name others.
+const NAMING: [Lump; 9] = [
+    Lump::Nodes,
+    Lump::Texinfos,
+    Lump::Faces,
+    Lump::Clipnodes,
+    Lump::Leafs,
+    Lump::Marksurfaces,
+    Lump::Edges,
+    Lump::Surfedges,
+    Lump::Models,
+];
+
 #[tactic(auto, unfolding(crate::specs::Rows::counts_of))]
 fn counts_of(src: &[u8]) -> Counts
     requires long { 124 ≤ length src.now }
@@ -179,21 +192,15 @@ fn check_lump_rows(src: &[u8], counts: &Counts, lump: Lump) -> Result<(), BspFau
     Ok(())
 }
 
-// The rows of all lumps that name others.
-#[tactic(auto, unfolding(crate::specs::Rows::rows_check))]
+// The rows of the lumps that name others, one lump after the other.
 pub(crate) fn check_rows(src: &[u8]) -> Result<(), BspFault>
     requires long { 124 ≤ length src.now }
     requires table { table_check (lump_of src.now Textures) ≡ fine }
     ensures { result ≡ rows_check src.now }
 {
     let counts = counts_of(src);
-    check_lump_rows(src, &counts, Lump::Nodes)?;
-    check_lump_rows(src, &counts, Lump::Texinfos)?;
-    check_lump_rows(src, &counts, Lump::Faces)?;
-    check_lump_rows(src, &counts, Lump::Clipnodes)?;
-    check_lump_rows(src, &counts, Lump::Leafs)?;
-    check_lump_rows(src, &counts, Lump::Marksurfaces)?;
-    check_lump_rows(src, &counts, Lump::Edges)?;
-    check_lump_rows(src, &counts, Lump::Surfedges)?;
-    check_lump_rows(src, &counts, Lump::Models)
+    for lump in NAMING {
+        check_lump_rows(src, &counts, lump)?;
+    }
+    Ok(())
 }

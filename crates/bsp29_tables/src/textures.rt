@@ -4,7 +4,7 @@ ghost use Rattle.bsp29_tables.specs.Checks.{fine};
 ghost use Rattle.bsp29_tables.specs.Textures.{texture_count, told_count, texture_offsets, is_bad_side, is_frame};
 ghost use Rattle.bsp29_tables.specs.Textures.{table_check, texture_check, textures_check};
 ghost use Rattle.bsp29_tables.specs.Textures.{animation_check, animations_check};
-ghost use Rattle.bsp29_tables.specs.Textures.{pixel_count, pixels_at, all_pixels, IsInside};
+ghost use Rattle.bsp29_tables.specs.Textures.{pixel_count, pixels_at, all_pixels, HasTexture};
 
 use crate::fault::BspFault;
 use base_fields::u32_at;
@@ -147,7 +147,7 @@ pub(crate) fn check_animations(lump: &[u8]) -> Result<(), BspFault>
 // The pixels of a texture that lies in the lump.
 #[tactic(auto, unfolding(crate::specs::Textures::pixels_at))]
 fn pixels_at(lump: &[u8], at: u32) -> u32
-    requires { IsInside lump.now at }
+    requires { HasTexture lump.now at }
     ensures { result ≡ pixels_at lump.now at }
 {
     if at == MISSING {

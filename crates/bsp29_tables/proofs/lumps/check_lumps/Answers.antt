@@ -8,7 +8,8 @@ pub returns-in_err-check_lump : goal.returns-in_err-check_lump
 returns-in_err-check_lump c =
     let p = err_from_is_err_and c.from_residual.result c.from_residual.ensures.1 in
     rw (p.1, p.2)
-    (sym (failed_here Entities _ c.loop-lump.invariant c.loop-lump-test.true (sym c.check_lump.ensures ∙ c.in_err-check_lump.was)))
+    (sym (failed_here Entities _ c.loop-lump.invariant c.loop-lump-test.true
+    (sym c.check_lump.ensures ∙ c.in_err-check_lump.was)))
 
 pub loop-lump-preserved : goal.loop-lump-preserved
 loop-lump-preserved c =

@@ -13,9 +13,16 @@ returns-then-not-row_passes c =
     let size = c.row_size-size.result in
     let row = c.loop-row.row in
     let below : row < length (rows_in size bytes) = rw length-rows_in c.loop-row-test.true in
-    let bad : row_check c.args.counts.now c.args.lump row (get_or (rows_in size bytes) row []) ≡ Err (BadRow c.number.result row) =
-    rw (get_or-rows_in size bytes row c.loop-row-test.true, ← c.row_passes.ensures, c.if-not-row_passes.true, c.number.ensures.number) refl in
-    rw (← c.lump_bytes-bytes.ensures.bytes, ← c.row_size-size.ensures.size) (sym (failed_here [] _ c.loop-row.invariant below bad))
+    let bad : row_check c.args.counts.now c.args.lump row (get_or (rows_in size bytes) row [])
+    ≡ Err (BadRow c.number.result row) =
+    rw (
+      get_or-rows_in size bytes row c.loop-row-test.true,
+      ← c.row_passes.ensures,
+      c.if-not-row_passes.true,
+      c.number.ensures.number,
+    ) refl in
+    rw (← c.lump_bytes-bytes.ensures.bytes, ← c.row_size-size.ensures.size)
+    (sym (failed_here [] _ c.loop-row.invariant below bad))
 
 pub loop-row-preserved : goal.loop-row-preserved
 loop-row-preserved c =

@@ -4,12 +4,12 @@ use Rattle.std.proofs.lemmas.List.{take_all}
 use Rattle.std.proofs.lemmas.List.Sums.{sum_by_more}
 use Rattle.bsp29_tables.specs.Textures.{texture_offsets, pixels_at}
 use Rattle.bsp29_tables.proofs.Cutting.{length-texture_offsets}
-use Rattle.bsp29_tables.proofs.TextureLaws.{all_inside}
+use Rattle.bsp29_tables.proofs.TextureLaws.{texture_inside}
 use Rattle.bsp29_tables.proofs.textures.all_pixels.Goals as goal
 
 pub pixels_at-requires : goal.pixels_at-requires
 pixels_at-requires c =
-    rw c.offset_of.ensures (all_inside c.args.lump.now c.loop-texture.texture c.requires.textures (omega arith))
+    rw c.offset_of.ensures (texture_inside c.args.lump.now c.loop-texture.texture c.requires.textures (omega arith))
 
 pub loop-texture-preserved : goal.loop-texture-preserved
 loop-texture-preserved c =
@@ -30,4 +30,5 @@ pub returns-clause-sum : goal.returns-clause-sum
 returns-clause-sum c =
     let lump = c.args.lump.now in
     let all : length (texture_offsets lump) ≤ c.loop-texture.texture = rw length-texture_offsets (omega arith) in
-    c.loop-texture.invariant.sum ∙ ap (sum_by (pixels_at lump)) (take_all c.loop-texture.texture (texture_offsets lump) all)
+    c.loop-texture.invariant.sum
+    ∙ ap (sum_by (pixels_at lump)) (take_all c.loop-texture.texture (texture_offsets lump) all)
