@@ -37,11 +37,11 @@ is_child counts (pos c) = nat_lt c counts.nodes
 is_child counts (negsuc c) = nat_lt c counts.leafs
 
 abbrev pub node_passes : Counts → List ℕ → Bool
-node_passes counts row =
-    nat_lt (u32_in row 0) counts.planes
-    && is_child counts (i16_in row 4)
-    && is_child counts (i16_in row 6)
-    && nat_le (u16_in row 20 + u16_in row 22) counts.faces
+node_passes counts fields =
+    nat_lt (u32_in fields 0) counts.planes
+    && is_child counts (i16_in fields 4)
+    && is_child counts (i16_in fields 6)
+    && nat_le (u16_in fields 20 + u16_in fields 22) counts.faces
 
 -- where there is no texture lump, each texture passes
 abbrev pub names_texture : Option ℕ → ℕ → Bool
@@ -49,13 +49,13 @@ names_texture None texture = true
 names_texture (Some textures) texture = nat_lt texture textures
 
 abbrev pub texinfo_passes : Counts → List ℕ → Bool
-texinfo_passes counts row = names_texture counts.textures (u32_in row 32)
+texinfo_passes counts fields = names_texture counts.textures (u32_in fields 32)
 
 abbrev pub face_passes : Counts → List ℕ → Bool
-face_passes counts row =
-    nat_lt (u16_in row 0) counts.planes
-    && nat_le (u32_in row 4 + u16_in row 8) counts.surfedges
-    && nat_lt (u16_in row 10) counts.texinfos
+face_passes counts fields =
+    nat_lt (u16_in fields 0) counts.planes
+    && nat_le (u32_in fields 4 + u16_in fields 8) counts.surfedges
+    && nat_lt (u16_in fields 10) counts.texinfos
 
 -- the child of a clipnode is a clipnode, or below 0 it tells contents
 abbrev pub is_clip_child : Counts → ℤ → Bool
@@ -63,10 +63,10 @@ is_clip_child counts (pos c) = nat_lt c counts.clipnodes
 is_clip_child counts (negsuc c) = true
 
 abbrev pub clipnode_passes : Counts → List ℕ → Bool
-clipnode_passes counts row =
-    nat_lt (u32_in row 0) counts.planes
-    && is_clip_child counts (i16_in row 4)
-    && is_clip_child counts (i16_in row 6)
+clipnode_passes counts fields =
+    nat_lt (u32_in fields 0) counts.planes
+    && is_clip_child counts (i16_in fields 4)
+    && is_clip_child counts (i16_in fields 6)
 
 -- a number from -32768 to -1
 abbrev pub is_contents : ℤ → Bool
@@ -74,14 +74,14 @@ is_contents (pos c) = false
 is_contents (negsuc c) = nat_lt c 32768
 
 abbrev pub leaf_passes : Counts → List ℕ → Bool
-leaf_passes counts row =
-    is_contents (i32_in row 0) && nat_le (u16_in row 20 + u16_in row 22) counts.marksurfaces
+leaf_passes counts fields =
+    is_contents (i32_in fields 0) && nat_le (u16_in fields 20 + u16_in fields 22) counts.marksurfaces
 
 abbrev pub marksurface_passes : Counts → List ℕ → Bool
-marksurface_passes counts row = nat_lt (u16_in row 0) counts.faces
+marksurface_passes counts fields = nat_lt (u16_in fields 0) counts.faces
 
 abbrev pub edge_passes : Counts → List ℕ → Bool
-edge_passes counts row = nat_lt (u16_in row 0) counts.vertexes && nat_lt (u16_in row 2) counts.vertexes
+edge_passes counts fields = nat_lt (u16_in fields 0) counts.vertexes && nat_lt (u16_in fields 2) counts.vertexes
 
 -- the number of an edge, below 0 of one that is walked backwards
 abbrev pub is_surfedge : Counts → ℤ → Bool
@@ -90,30 +90,30 @@ is_surfedge counts (negsuc e) = nat_lt (suc e) counts.edges
 
 -- the leafs that are seen are told by model 0
 abbrev pub model_passes : Counts → ℕ → List ℕ → Bool
-model_passes counts number row =
-    nat_le (u32_in row 56 + u32_in row 60) counts.faces
-    && (not (number == 0) || nat_le (u32_in row 52) counts.leafs)
+model_passes counts number fields =
+    nat_le (u32_in fields 56 + u32_in fields 60) counts.faces
+    && (not (number == 0) || nat_le (u32_in fields 52) counts.leafs)
 
 abbrev pub row_passes : Counts → Lump → ℕ → List ℕ → Bool
-row_passes counts Nodes number row = node_passes counts row
-row_passes counts Texinfos number row = texinfo_passes counts row
-row_passes counts Faces number row = face_passes counts row
-row_passes counts Clipnodes number row = clipnode_passes counts row
-row_passes counts Leafs number row = leaf_passes counts row
-row_passes counts Marksurfaces number row = marksurface_passes counts row
-row_passes counts Edges number row = edge_passes counts row
-row_passes counts Surfedges number row = is_surfedge counts (i32_in row 0)
-row_passes counts Models number row = model_passes counts number row
-row_passes counts other number row = true
+row_passes counts Nodes number fields = node_passes counts fields
+row_passes counts Texinfos number fields = texinfo_passes counts fields
+row_passes counts Faces number fields = face_passes counts fields
+row_passes counts Clipnodes number fields = clipnode_passes counts fields
+row_passes counts Leafs number fields = leaf_passes counts fields
+row_passes counts Marksurfaces number fields = marksurface_passes counts fields
+row_passes counts Edges number fields = edge_passes counts fields
+row_passes counts Surfedges number fields = is_surfedge counts (i32_in fields 0)
+row_passes counts Models number fields = model_passes counts number fields
+row_passes counts other number fields = true
 
 -- ---- the checks
 
 abbrev pub row_tests : Counts → Lump → ℕ → List ℕ → List (Bool × BspFault)
-row_tests counts lump number row =
-    (not (row_passes counts lump number row), BadRow (number_of lump) number) ∷ []
+row_tests counts lump number fields =
+    (not (row_passes counts lump number fields), BadRow (number_of lump) number) ∷ []
 
 abbrev pub row_check : Counts → Lump → ℕ → List ℕ → Checked
-row_check counts lump number row = none_of (row_tests counts lump number row)
+row_check counts lump number fields = none_of (row_tests counts lump number fields)
 
 abbrev pub lump_rows_check : List ℕ → Lump → Checked
 lump_rows_check bytes lump = each_from (row_check (counts_of bytes) lump) 0 (rows_of bytes lump)

@@ -8,22 +8,22 @@ const HEADER: &[u32] = &[
     28, 336, 4, 340, 4, 344, 4, 348, 128,
 ];
 
-const ENTITIES_AND_PLANE: &[u32] = &[0x20, 0x3f800000, 0, 0, 0, 0];
+const ENTITIES_AND_PLANE: &[u32] = &[0x20, 0x3f80_0000, 0, 0, 0, 0];
 
 // A texture of 16 x 0.
-const TEXTURE: &[u32] = &[1, 8, 0x6c617774, 0, 0, 0, 16, 0, 40, 40, 40, 40];
+const TEXTURE: &[u32] = &[1, 8, 0x6c61_7774, 0, 0, 0, 16, 0, 40, 40, 40, 40];
 
 const VERTEX_AND_VISIBILITY: &[u32] = &[1, 2, 3, 0xff];
 
-const NODE: &[u32] = &[0, 0xffffffff, 0, 0, 0, 0x00010000];
+const NODE: &[u32] = &[0, 0xffff_ffff, 0, 0, 0, 0x0001_0000];
 
 const TEXINFO: &[u32] = &[0, 0, 0, 0, 0, 0, 0, 0, 0, 0];
 
 const FACE_AND_LIGHTING: &[u32] = &[0, 0, 1, 0, 0, 0];
 
-const CLIPNODE: &[u32] = &[0, 0xfffeffff];
+const CLIPNODE: &[u32] = &[0, 0xfffe_ffff];
 
-const LEAF: &[u32] = &[0xffffffff, 0, 0, 0, 0, 0x00020000, 0];
+const LEAF: &[u32] = &[0xffff_ffff, 0, 0, 0, 0, 0x0002_0000, 0];
 
 const MARKSURFACES_EDGE_SURFEDGE: &[u32] = &[0, 0, 0];
 
@@ -109,9 +109,9 @@ fn refuses_by_the_one_fault(rt: HostRuntime) {
         (37, 4097, BspFault::TextureTable),
         (38, 9, BspFault::TextureOutside { texture: 0 }),
         (43, 8, BspFault::TextureSize { texture: 0 }),
-        (43, 16400, BspFault::TextureSize { texture: 0 }),
+        (43, 16_400, BspFault::TextureSize { texture: 0 }),
         (44, 8, BspFault::TextureSize { texture: 0 }),
-        (44, 16400, BspFault::TextureSize { texture: 0 }),
+        (44, 16_400, BspFault::TextureSize { texture: 0 }),
         (44, 16, BspFault::TextureOutside { texture: 0 }),
         (39, 0x6c61_772b, BspFault::Unbuilt { texture: 0 }),
     ];
@@ -250,7 +250,7 @@ fn shared(alloc: Global, entities: u32) -> Result<Vec<u8>, AllocError> {
     let mut file = large(alloc, 550_000, &lumps)?;
     put_words(&mut file, &[(47, 4096)]);
     for texture in 0..4096 {
-        put_words(&mut file, &[(48 + texture, 16388)]);
+        put_words(&mut file, &[(48 + texture, 16_388)]);
     }
     put_words(&mut file, &[(4148, 368), (4149, 1072)]);
     Ok(file)
