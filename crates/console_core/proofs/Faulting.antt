@@ -8,6 +8,7 @@ use Rattle.outside_io.specs.Causes.{Rose}
 use Rattle.outside_io.specs.Files.{File}
 use Rattle.outside_io.specs.declared.outside.Folder.{Ghosts as FolderGhosts}
 use Rattle.search_paths.specs.declared.answers.MountRow.{MountRow}
+use Rattle.search_paths.specs.Counts.{NoneFalls}
 use Rattle.search_paths.specs.Mounts.{Mount, mounted, BadPack as BadPackOf}
 use Rattle.search_paths.specs.Path.{PathState, all_some, rows_of, told_of, told_mounts, mounts_of}
 use Rattle.search_paths.proofs.FindLaws.{each_is_there, rows-told}
@@ -35,6 +36,15 @@ hands_over status first files faults told frugal before counts sink_before sink_
 hands_over status first files faults told frugal before counts sink_before sink_now step.Quit cause is = subst (λ s. HandsOver first files faults told before s) (sym is) tt
 hands_over status first files faults told frugal before counts sink_before sink_now step.WriteFault cause is = subst (λ s. HandsOver first files faults told before s) (sym is) tt
 hands_over status first files faults told frugal before counts sink_before sink_now step.OutOfMemory cause is = subst (λ s. HandsOver first files faults told before s) (sym is) tt
+
+-- what is handed over since some counts is so since earlier ones
+pub hands_earlier : {F : Type 0} (status : Status F) (first : ℕ) (files : F → Option (List File)) (faults : F → ℕ) (told : List (Option (List File))) (before counts : List ℕ)
+    → NoneFalls before counts → HandsOver first files faults told counts status → HandsOver first files faults told before status
+hands_earlier (FolderFault word folder) first files faults told before counts none_falls hands =
+    let rose : Rose (slice_index before hands.0) (faults folder) = omega (arith, none_falls hands.0, hands.3) in
+    (hands.0, hands.1, hands.2, rose)
+hands_earlier (BadPack folder pack fault) first files faults told before counts none_falls hands = hands
+hands_earlier status first files faults told before counts none_falls hands = tt
 
 unknown_cut : (before now : Outside) (fault : Fault) (first : Option State) → IsCutAt fault first before now → IsCutAt fault None before now
 unknown_cut before now fault first cut = record { taken = cut.taken; took = cut.took; size = cut.size; put = tt; held = inr tt }

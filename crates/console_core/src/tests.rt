@@ -8,6 +8,7 @@ use std::process::Abort;
 
 mod commands;
 mod endings;
+mod models;
 mod mounts;
 mod sounds;
 
@@ -117,6 +118,29 @@ fn run(
     assert!(rt; names.len() < 100);
     assert_eq!(rt; folders.len(), names.len());
     Ok(quake_main(alloc, &names, folders, script, out))
+}
+
+// Runs a script on a folder behind these options, whose own folders fail.
+fn run_on(
+    rt: &impl Abort,
+    alloc: Global,
+    options: &[&str],
+    folder: Box<dyn Folder>,
+    text: &str,
+    out: &mut MemSink,
+) -> Result<Status, AllocError> {
+    let mut words = Vec::new(alloc);
+    let mut folders: Vec<Box<dyn Folder>> = Vec::new(alloc);
+    for option in options {
+        words.push(String::from_str(alloc, option)?)?;
+        folders.push(empty(alloc)?)?;
+    }
+    words.push(String::from_str(alloc, "d")?)?;
+    folders.push(folder)?;
+    assert!(rt; words.len() < 100);
+    assert_eq!(rt; folders.len(), words.len());
+    let mut script = source(alloc, text.as_bytes())?;
+    Ok(quake_main(alloc, &words, folders, &mut script, out))
 }
 
 // Compares how a run ended, as a user sees it, and what was put.

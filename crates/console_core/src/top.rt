@@ -149,30 +149,30 @@ fn run<F: Folder, S: Source, O: Sink>(
 
 /// Mounts folders, runs a script over them, and puts the replies to its commands.
 ///
-/// The words are the options `-heapsize` and `-zone`, each with a number of KB, and `-speed` with one of Hz, each at most
-/// once and in any order, and then the words of 1 to 8 folders, which aren't empty and don't begin with `-`. A heap has
-/// 1024 to 65536 KB, and 16384 where none is asked for; a zone has 4 to 65536, and 48; the speed of sounds is 1000 to 96000
-/// samples a second, and 11025. `Usage` tells the number of the first word that breaks this, or the number of words where
-/// one is missing; `TooSmall` says that the zone's block exceeds the heap. Both come before memory is taken, anything is read
-/// or anything is put. The folder of number i stands for word i; those of the other words are dropped unused. There must be
-/// fewer than 2^32 words.
+/// The words are the options `-heapsize` and `-zone`, each with a number of KB, and `-speed` with one of Hz, each at
+/// most once and in any order, and then the words of 1 to 8 folders, which aren't empty and don't begin with `-`. A
+/// heap has 1024 to 65536 KB, and 16384 where none is asked for; a zone has 4 to 65536, and 48; the speed of sounds is
+/// 1000 to 96000 samples a second, and 11025. `Usage` tells the number of the first word that breaks this, or the
+/// number of words where one is missing; `TooSmall` says that the zone's block exceeds the heap. Both come before
+/// memory is taken, anything is read or anything is put. The folder of number i stands for word i; those of the other
+/// words are dropped unused. There must be fewer than 2^32 words.
 ///
-/// The folders are mounted one after another, each with its packs in front of those before, and the first mount with a name
-/// has its file. `BadPack` tells the first pack that is not taken. A folder that fails while it is mounted gives
-/// `FolderFault`, and no pack before the call that failed is bad, as far as the folders tell. Either comes before the script
-/// is read.
+/// The folders are mounted one after another, each with its packs in front of those before, and the first mount with a
+/// name has its file. `BadPack` tells the first pack that is not taken. A folder that fails while it is mounted gives
+/// `FolderFault`, and no pack before the call that failed is bad, as far as the folders tell. Either comes before the
+/// script is read.
 ///
-/// The script is read in pieces of at most 4096 bytes, and every whole line among the bytes taken is run before the next
-/// read; it has at most 1,048,576 bytes, and no piece holds both the last of these and the one after it. A last line
-/// without a newline is a line where it isn't empty. `quit`, or a fault in a line, ends the run in the last piece that was
-/// read, and may leave bytes unread. Before each read but the first, and at the end, the sink is told to hand on what was
-/// put: a sink that held nothing back before holds nothing back afterwards.
+/// The script is read in pieces of at most 4096 bytes, and every whole line among the bytes taken is run before the
+/// next read; it has at most 1,048,576 bytes, and no piece holds both the last of these and the one after it. A last
+/// line without a newline is a line where it isn't empty. `quit`, or a fault in a line, ends the run in the last piece
+/// that was read, and may leave bytes unread. Before each read but the first, and at the end, the sink is told to hand
+/// on what was put: a sink that held nothing back before holds nothing back afterwards.
 ///
 /// With `Done` the replies of the run over the whole script were put, or those up to `quit`; after `ScriptFault` and
 /// `ScriptTooLong` those over the whole lines before; after `FolderFault` none, where the folder failed while it was
-/// mounted, or those before one command that asked for a file; after `WriteFault` those before one reply and a front of that
-/// one. `OutOfMemory` comes while the heap, the table of resources and the path are made, before the script is read, or in a command that asked for
-/// memory.
+/// mounted, or those before one command that asked for a file; after `WriteFault` those before one reply and a front of
+/// that one. `OutOfMemory` comes while the heap, the table of resources and the path are made, before the script is
+/// read, or in a command that asked for memory.
 pub fn quake_main<S: Source, O: Sink>(
     alloc: Global,
     words: &[String],

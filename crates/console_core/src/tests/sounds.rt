@@ -1,6 +1,5 @@
 // Sounds: loaded, shown, evicted and loaded again.
-use super::{check_end, empty, sink, source};
-use crate::quake_main;
+use super::{check_end, run_on, sink};
 use outside_io::{Folder, MemFile, MemFolder};
 use std::alloc::{AllocError, Global};
 use std::process::Abort;
@@ -101,19 +100,9 @@ fn check_sounds(
     put: &str,
     end: End,
 ) -> Result<(), AllocError> {
-    let mut words = Vec::new(alloc);
-    let mut folders: Vec<Box<dyn Folder>> = Vec::new(alloc);
-    for option in options {
-        words.push(String::from_str(alloc, option)?)?;
-        folders.push(empty(alloc)?)?;
-    }
-    words.push(String::from_str(alloc, "d")?)?;
-    folders.push(folder(rt, alloc, fails)?)?;
-    assert!(rt; words.len() < 100);
-    assert_eq!(rt; folders.len(), words.len());
-    let mut script = source(alloc, text.as_bytes())?;
     let mut out = sink(alloc)?;
-    let status = quake_main(alloc, &words, folders, &mut script, &mut out);
+    let folder = folder(rt, alloc, fails)?;
+    let status = run_on(rt, alloc, options, folder, text, &mut out)?;
     check_end(rt, &status, &out, end.0, end.1, put);
     Ok(())
 }
@@ -145,7 +134,7 @@ fn sounds_come_and_go(rt: HostRuntime) -> Result<(), Fail> {
         (
             "sound;sound ../x;sound none.wav\ninfo;info model x.wav;info Sound x.wav;dump sound ../x;dump sound none",
             "bad name\nbad name\nnot found: sound/none.wav\n\
-             bad kind\nbad kind\nbad kind\nbad name\nnone is absent\n",
+             bad kind\nx.wav is absent\nbad kind\nbad name\nnone is absent\n",
         ),
         (
             "sound aaaaaaaaaaaaaaaaaaaaaaaaaaaaaaaaaaaaaaaaaaaaaaaaaaaaaaaaaa\n\
