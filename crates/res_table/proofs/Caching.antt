@@ -28,6 +28,8 @@ use Rattle.alias_load.specs.Images.{image_of as alias_of}
 use Rattle.alias_load.proofs.ImageLaws.{length_of_image as alias_long}
 use Rattle.sprite_load.specs.Images.{image_of as sprite_of}
 use Rattle.sprite_load.proofs.ImageLaws.{length_of_image as sprite_long}
+use Rattle.wad2_lumps.specs.Images.{image_of as wad_of}
+use Rattle.wad2_lumps.proofs.ImageLaws.{length_of_image as wad_length}
 use Rattle.wav_load.specs.Images.{image_of as sound_of}
 use Rattle.wav_load.proofs.ImageLaws.{length_of_image as sound_long}
 use Rattle.res_table.specs.declared.kinds.Kind.{Kind}
@@ -229,6 +231,11 @@ bounds_told tell (Ok image) size low high is bounds =
     let same : length image ≡ size = cc in
     subst (λ (n : ℕ). (low ≤ n) × (n ≤ high)) same (bounds image refl)
 
+wad_long : (bytes image : List ℕ) → wad_of bytes ≡ Ok image → (12 ≤ length image) × (length image ≤ length bytes)
+wad_long bytes image made =
+    let is = wad_length bytes image made in
+    (is.0, omega (arith, is.1))
+
 pub image_bounds : (speed : ℕ) (kind : Kind) (bytes : List ℕ) (size : ℕ) → length bytes ≤ 2 ^ 26 → image_size (image_of speed kind bytes) ≡ Ok size
     → (0 < size) × (size < 2 ^ 32)
 image_bounds speed kind.Alias bytes size small is =
@@ -236,6 +243,9 @@ image_bounds speed kind.Alias bytes size small is =
     (omega (arith, bounds.0), omega (arith, bounds.1, small))
 image_bounds speed kind.Sprite bytes size small is =
     let bounds = bounds_told fault.Sprite (sprite_of bytes) size 72 (2 * length bytes) is (λ image made. sprite_long bytes image made) in
+    (omega (arith, bounds.0), omega (arith, bounds.1, small))
+image_bounds speed kind.Wad bytes size small is =
+    let bounds = bounds_told fault.Wad (wad_of bytes) size 12 (length bytes) is (λ image made. wad_long bytes image made) in
     (omega (arith, bounds.0), omega (arith, bounds.1, small))
 image_bounds speed kind.Sound bytes size small is =
     let bounds = bounds_told fault.Sound (sound_of speed bytes) size 20 (2 ^ 31 + 20) is (λ image made. sound_long speed bytes image made) in

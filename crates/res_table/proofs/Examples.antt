@@ -1,5 +1,5 @@
 -- A game with two sounds in its table, of which one is in the cache. No mount has a file.
-use Rattle.std.proofs.Common.{◌≡◌, ℕ, ◌+◌, List, [], ◌∷◌, ◌++◌, true, false, replicate, Option, Some, None, Ok, Err, codes, refl}
+use Rattle.std.proofs.Common.{◌≡◌, ℕ, ◌+◌, List, [], ◌∷◌, ◌++◌, false, replicate, Option, Some, None, Ok, Err, codes, refl}
 use Rattle.mem_model.specs.Cache.{evictions, peek_bytes, pushed_up, up_in, with_new}
 use Rattle.mem_model.specs.Hunk.{over, with_low, with_low_bytes}
 use Rattle.mem_model.specs.Images.{with_cache_bytes, with_user_bytes}
@@ -10,7 +10,7 @@ use Rattle.search_paths.specs.Mounts.{folder_mount}
 use Rattle.file_load.specs.Loads.{Loading, load_temp, temp_load}
 use Rattle.res_table.specs.declared.answers.AcquireError.TheVariants as error
 use Rattle.res_table.specs.declared.answers.Fault.TheVariants.{Unbuilt}
-use Rattle.res_table.specs.declared.kinds.Kind.TheVariants.{Alias, Sprite, Sound}
+use Rattle.res_table.specs.declared.kinds.Kind.TheVariants.{Alias, Sprite, Wad, Sound}
 use Rattle.res_table.specs.declared.kinds.Table.TheVariants.{Models, Sounds}
 use Rattle.res_table.specs.declared.slots.Loaded.{Loaded}
 use Rattle.res_table.specs.Acquire.{acquire, answered_after, answered_before}
@@ -77,11 +77,14 @@ unfolding answered_before
 no_further_name = refl
 
 -- The kind of a model stands in its first four bytes. A file that is shorter than those is taken for a brush.
-kinds : (kind_of Models (codes "IDPO1") ≡ Ok Alias) × (kind_of Models (codes "IDSP") ≡ Ok Sprite) × (kind_of Sounds (codes "IDSP") ≡ Ok Sound)
+kinds : (kind_of Models (codes "IDPO1") ≡ Ok Alias) × (kind_of Models (codes "IDSP") ≡ Ok Sprite) × (kind_of Models (codes "WAD2") ≡ Ok Wad)
 kinds = (refl, refl, refl)
 
-unbuilt : (kind_of Models (codes "WAD2") ≡ Err (Unbuilt true)) × (kind_of Models (codes "IDP") ≡ Err (Unbuilt false)) × (kind_of Models [] ≡ Err (Unbuilt false))
-unbuilt = (refl, refl, refl)
+a_sound : kind_of Sounds (codes "IDSP") ≡ Ok Sound
+a_sound = refl
+
+unbuilt : (kind_of Models (codes "IDP") ≡ Err Unbuilt) × (kind_of Models [] ≡ Err Unbuilt)
+unbuilt = (refl, refl)
 
 -- An arena with a zone alone, and the room behind it.
 abbrev arena : (room : ℕ) → Memory

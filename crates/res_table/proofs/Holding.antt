@@ -79,7 +79,7 @@ pub image_seen : (t : Resources) (m : Memory) (table : Table) (name : List ℕ) 
     → found_in name (rows_in t table) ≡ Some (slot, loaded) → bytes_at m (user_of table slot) loaded.low ≡ Some bytes → IsImage loaded.kind (take loaded.size bytes)
 image_seen t m table name slot loaded bytes is found there =
     let made = rw there at (is.1.images table name slot loaded found) in
-    record { speed = t.speed; source = made.source; image = made.image }
+    record { speed = t.speed; source = made.source; small = made.small; image = made.image }
 
 -- what the block of a resource shows after was there before
 module _ {lows except : List ℕ} {m n : Memory} (P : List ℕ → Type 0) (kept : Keeps lows except m n) where
@@ -165,11 +165,13 @@ by_table t Sounds Models rows slot at below within same apart = apart refl (λ e
 in_cache_or : {P : Type 0} (kind : Kind) (place user : ℕ) → (low_at kind place ≡ None → P) → (users_for kind user ≡ [] → P) → P
 in_cache_or kind.Alias place user cached low = cached refl
 in_cache_or kind.Sprite place user cached low = low refl
+in_cache_or kind.Wad place user cached low = low refl
 in_cache_or kind.Sound place user cached low = cached refl
 
 not_made : (kind : Kind) (own user : ℕ) → user ≢ own → ¬ Contains (users_for kind own) user
 not_made kind.Alias own user off = not_excepted own user off
 not_made kind.Sprite own user off = none_excepted user
+not_made kind.Wad own user off = none_excepted user
 not_made kind.Sound own user off = not_excepted own user off
 
 not_held : (c : Cache) (user : ℕ) (b : CacheBlock) → peek_bytes c user ≡ None → held c user ≡ Some b → ⊥

@@ -33,6 +33,7 @@ kept_but except p = λ lows. Keeps-fewer (λ place in_table. in_table) (λ user 
 pub kept_for : {a b : Memory} (kind : Kind) (user : ℕ) → KeepsAll (users_for kind user) a b → KeepsAll (user ∷ []) a b
 kept_for kind.Alias user p = p
 kept_for kind.Sprite user p = kept_but (user ∷ []) p
+kept_for kind.Wad user p = kept_but (user ∷ []) p
 kept_for kind.Sound user p = p
 
 pub kept_none : {A E : Type 0} {a b : Memory} (result : Result A E) → KeepsAll [] a b → KeepsAll (made_for [] result) a b

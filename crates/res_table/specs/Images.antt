@@ -1,9 +1,10 @@
 -- The file of a resource, and its image.
-use Rattle.std.specs.Prelude.{ℕ, ◌≡◌, List, ◌++◌, codes, nat_eq, Result, Ok, Err, IsTrue, if◌then◌else◌}
+use Rattle.std.specs.Prelude.{ℕ, ◌≡◌, ◌≤◌, ◌^◌, List, ◌++◌, length, codes, nat_eq, Result, Ok, Err, IsTrue, if◌then◌else◌}
 use Rattle.std.specs.List.{starts_with}
 use Rattle.base_fields.specs.Names.{is_game_name}
 use Rattle.alias_load.specs.Images.{image_of as alias_of}
 use Rattle.sprite_load.specs.Images.{image_of as sprite_of}
+use Rattle.wad2_lumps.specs.Images.{image_of as wad_of}
 use Rattle.wav_load.specs.Images.{image_of as sound_of}
 use Rattle.res_table.specs.declared.answers.Fault.{Fault}
 use Rattle.res_table.specs.declared.answers.Fault.TheVariants as fault
@@ -21,12 +22,13 @@ file_of Sounds name = codes "sound/" ++ name
 abbrev pub HasFileName : Table → List ℕ → Type 0
 HasFileName table name = IsTrue (is_game_name (file_of table name))
 
--- What the bytes of a model are made into, by the first four. Wads and brushes aren't built.
+-- What the bytes of a model are made into, by the first four. Other models are brushes, which aren't built.
 abbrev pub model_kind : List ℕ → Result Kind Fault
 model_kind bytes =
     if starts_with nat_eq bytes (codes "IDPO") then Ok kind.Alias
     else if starts_with nat_eq bytes (codes "IDSP") then Ok kind.Sprite
-    else Err (fault.Unbuilt (starts_with nat_eq bytes (codes "WAD2")))
+    else if starts_with nat_eq bytes (codes "WAD2") then Ok kind.Wad
+    else Err fault.Unbuilt
 
 -- what the bytes of a file are made into
 abbrev pub kind_of : Table → List ℕ → Result Kind Fault
@@ -42,10 +44,12 @@ told_by tell (Err wrong) = Err (tell wrong)
 abbrev pub image_of : ℕ → Kind → List ℕ → Result (List ℕ) Fault
 image_of speed kind.Alias bytes = told_by fault.Alias (alias_of bytes)
 image_of speed kind.Sprite bytes = told_by fault.Sprite (sprite_of bytes)
+image_of speed kind.Wad bytes = told_by fault.Wad (wad_of bytes)
 image_of speed kind.Sound bytes = told_by fault.Sound (sound_of speed bytes)
 
--- the bytes are an image of this kind, of some source at some speed
+-- the bytes are an image of this kind, of some source, which is no longer than a file, at some speed
 pub record IsImage (kind : Kind) (bytes : List ℕ) : Type 0 where
   pub speed : ℕ
   pub source : List ℕ
+  pub small : length source ≤ 2 ^ 26
   pub image : image_of speed kind source ≡ Ok bytes

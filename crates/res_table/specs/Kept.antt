@@ -11,6 +11,7 @@ use Rattle.res_table.specs.declared.kinds.Kind.TheVariants as kind
 abbrev pub users_for : Kind → (user : ℕ) → List ℕ
 users_for kind.Alias user = user ∷ []
 users_for kind.Sprite user = []
+users_for kind.Wad user = []
 users_for kind.Sound user = user ∷ []
 
 -- the users whose blocks were made, where they were

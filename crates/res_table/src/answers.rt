@@ -4,6 +4,7 @@ use alias_load::AliasFault;
 use file_load::LoadError;
 use mem_model::RoomError;
 use sprite_load::SpriteFault;
+use wad2_lumps::WadFault;
 use wav_load::WavFault;
 
 /// Why the bytes of a file are no resource.
@@ -15,9 +16,10 @@ pub enum Fault {
     Sprite(SpriteFault),
     /// They are no sound.
     Sound(WavFault),
-    /// They begin as neither an alias model nor a sprite, and other models aren't built: wads, which begin with `WAD2`, and
-    /// brushes, which any other file is taken for.
-    Unbuilt { wad: bool },
+    /// They are no wad.
+    Wad(WadFault),
+    /// They begin as none of those models, so they are taken for a brush, and brushes aren't built.
+    Unbuilt,
 }
 
 /// A resource that is there.

@@ -6,6 +6,7 @@ use crate::kinds::Kind;
 use alias_load::AliasBuilder;
 use mem_model::Builder;
 use sprite_load::SpriteBuilder;
+use wad2_lumps::WadBuilder;
 use wav_load::WavBuilder;
 
 /// Makes the images of one kind.
@@ -35,6 +36,7 @@ impl Builder for ImageBuilder {
         match self.kind {
             Kind::Alias => AliasBuilder.size(source).map_err(Fault::Alias),
             Kind::Sprite => SpriteBuilder.size(source).map_err(Fault::Sprite),
+            Kind::Wad => WadBuilder.size(source).map_err(Fault::Wad),
             Kind::Sound => WavBuilder { speed: self.speed }
                 .size(source)
                 .map_err(Fault::Sound),
@@ -45,6 +47,7 @@ impl Builder for ImageBuilder {
         match self.kind {
             Kind::Alias => AliasBuilder.build(source, block),
             Kind::Sprite => SpriteBuilder.build(source, block),
+            Kind::Wad => WadBuilder.build(source, block),
             Kind::Sound => WavBuilder { speed: self.speed }.build(source, block),
         }
     }

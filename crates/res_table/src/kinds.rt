@@ -16,6 +16,8 @@ pub enum Kind {
     Alias,
     /// A sprite, on the low hunk.
     Sprite,
+    /// A wad, on the low hunk.
+    Wad,
     /// Samples, in the cache.
     Sound,
 }
@@ -26,7 +28,7 @@ impl Kind {
         ensures { result ≡ low_at self place.0 }
     {
         match self {
-            Kind::Sprite => Some(place),
+            Kind::Sprite | Kind::Wad => Some(place),
             Kind::Alias | Kind::Sound => None,
         }
     }
@@ -109,7 +111,8 @@ fn model_kind(source: &[u8]) -> Result<Kind, Fault>
     if source.starts_with(b"IDSP") {
         return Ok(Kind::Sprite);
     }
-    Err(Fault::Unbuilt {
-        wad: source.starts_with(b"WAD2"),
-    })
+    if source.starts_with(b"WAD2") {
+        return Ok(Kind::Wad);
+    }
+    Err(Fault::Unbuilt)
 }

@@ -72,7 +72,7 @@ fn build_image<M: Store>(
 {
     match image.builder.kind {
         Kind::Alias => build_through_low(store, user, image, name),
-        Kind::Sprite => build_lowered(store, image, name),
+        Kind::Sprite | Kind::Wad => build_lowered(store, image, name),
         Kind::Sound => build_cached(store, user, image, name),
     }
 }

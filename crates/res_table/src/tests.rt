@@ -12,6 +12,7 @@ use outside_io::{Folder, MemFile, MemFolder};
 use search_paths::{MountError, Paths};
 use std::alloc::{AllocError, Global};
 use std::test::Fail;
+use wad2_lumps::WadFault;
 use wav_load::WavFault;
 
 const ZONE: u32 = 49_152;
@@ -48,6 +49,8 @@ fn model(alloc: Global, name: &[u8]) -> Result<Option<Vec<u8>>, AllocError> {
     let text: &[u8] = if name == b"p.spr".as_slice() {
         SPRITE
     } else if name == b"w.wad".as_slice() {
+        b"WAD2\0\0\0\0\x0c\0\0\0"
+    } else if name == b"v.wad".as_slice() {
         b"WAD2"
     } else if name == b"x.bsp".as_slice() {
         b"WAD"
@@ -73,9 +76,9 @@ fn file(alloc: Global, name: &[u8], samples: usize) -> Result<Vec<u8>, AllocErro
     Ok(bytes)
 }
 
-// A folder of six sounds, those two and four models, whose call of this number fails.
+// A folder of six sounds, those two and five models, whose call of this number fails.
 fn folder(alloc: Global, samples: usize, fails: u64) -> Result<MemFolder, AllocError> {
-    let names: [&[u8]; 12] = [
+    let names: [&[u8]; 13] = [
         b"sound/s0.wav",
         b"sound/s1.wav",
         b"sound/s2.wav",
@@ -87,6 +90,7 @@ fn folder(alloc: Global, samples: usize, fails: u64) -> Result<MemFolder, AllocE
         b"g.mdl",
         b"p.spr",
         b"w.wad",
+        b"v.wad",
         b"x.bsp",
     ];
     let mut held = Vec::new(alloc);
@@ -256,15 +260,19 @@ fn a_sound_needs_room_beside_its_file(rt: HostRuntime) -> Result<(), Fail> {
 #[test]
 fn a_model_goes_where_its_kind_belongs(rt: HostRuntime) -> Result<(), Fail> {
     let alloc = rt.alloc();
-    let unbuilt = |wad: bool| Err(AcquireError::Bad(Fault::Unbuilt { wad }));
-    let cases: [(&[u8], Result<Res, AcquireError>); 7] = [
+    let cases: [(&[u8], Result<Res, AcquireError>); 9] = [
         (b"g.mdl", there(Kind::Alias, 49_416, 188, true)),
         (b"p.spr", there(Kind::Sprite, 49_184, 78, true)),
-        (b"w.wad", unbuilt(true)),
-        (b"x.bsp", unbuilt(false)),
+        (b"w.wad", there(Kind::Wad, 49_280, 12, true)),
+        (
+            b"v.wad",
+            Err(AcquireError::Bad(Fault::Wad(WadFault::NotWad))),
+        ),
+        (b"x.bsp", Err(AcquireError::Bad(Fault::Unbuilt))),
         (b"none.mdl", Err(AcquireError::NotFound)),
         (b"g.mdl", there(Kind::Alias, 49_416, 188, false)),
         (b"p.spr", there(Kind::Sprite, 49_184, 78, false)),
+        (b"w.wad", there(Kind::Wad, 49_280, 12, false)),
     ];
     assert_eq!(rt;
         first_wrong_in(alloc, 1_048_576, 0, 99, Table::Models, &cases)?,
