@@ -1,5 +1,5 @@
 -- Worked examples.
-use Rattle.std.proofs.Common.{◌≡◌, ℕ, List, [], ◌∷◌, ◌++◌, true, codes, replicate, refl}
+use Rattle.std.proofs.Common.{◌≡◌, ℕ, List, [], ◌∷◌, ◌++◌, codes, replicate, refl}
 use Rattle.std.specs.Fmt.{digits}
 use Rattle.hex.specs.Hex.{encode_with}
 use Rattle.alias_load.specs.declared.fault.AliasFault.TheVariants as alias
@@ -8,9 +8,14 @@ use Rattle.base_fields.specs.Fields.{u32_in, u32_bytes}
 use Rattle.res_table.specs.declared.answers.Fault.TheVariants as fault
 use Rattle.res_table.specs.declared.kinds.Kind.TheVariants as kind
 use Rattle.sprite_load.specs.declared.fault.SpriteFault.TheVariants as sprite
+use Rattle.wad2_lumps.specs.declared.fault.WadFault.TheVariants as wad_fault
+use Rattle.info_text.specs.declared.lump_errors.LumpError.TheVariants as error
 use Rattle.info_text.specs.Dumps.{dump_text}
 use Rattle.info_text.specs.Infos.{info_text}
 use Rattle.info_text.specs.Lines.{bad_text}
+use Rattle.info_text.specs.LumpErrors.{lump_error_text}
+use Rattle.info_text.specs.LumpNames.{shown}
+use Rattle.info_text.specs.Pictures.{picture_text}
 
 -- the image of a sound of two samples, with no loop, and of one that goes round from its first sample on
 abbrev sound : List ℕ → List ℕ
@@ -69,6 +74,51 @@ a_sprite : info_text kind.Sprite (codes "x.spr") turned ≡ codes "sprite x.spr 
 unfolding digits u32_in
 a_sprite = refl
 
+-- A wad of 90 bytes: a picture of two pixels at 12, four bytes at 22, and a table of two rows.
+abbrev lump_row : ℕ → ℕ → ℕ → List ℕ → List ℕ
+lump_row offset size compression name =
+    u32_bytes offset ++ (u32_bytes size ++ (u32_bytes size ++ 66 ∷ compression ∷ 0 ∷ 0 ∷ name))
+
+abbrev wad : List ℕ
+wad =
+    codes "WAD2"
+    ++ (u32_bytes 2 ++ (u32_bytes 26 ++ (u32_bytes 2 ++ (u32_bytes 1 ++ 0x0a ∷ 0x0b ∷ codes "abcd"
+    ++ (lump_row 12 10 0 (codes "PIC" ++ replicate 13 0) ++ lump_row 22 4 1 (codes "SQUASHED" ++ replicate 8 0))))))
+
+a_wad : info_text kind.Wad (codes "w.wad") wad ≡
+    codes "wad w.wad lumps 2\nlump 0 PIC type 66 size 10 compression 0\nlump 1 SQUASHED type 66 size 4 compression 1\n"
+unfolding digits u32_in shown
+a_wad = refl
+
+a_picture : picture_text (codes "pic") (record { width = 2; height = 1; offset = 20 }) wad ≡
+    codes "pic pic 2 1\n0a0b\n"
+unfolding digits encode_with shown
+a_picture = refl
+
+-- rows of no pixels
+empty_rows : picture_text (codes "pic") (record { width = 0; height = 3; offset = 20 }) wad ≡
+    codes "pic pic 0 3\n\n\n\n"
+unfolding digits encode_with shown
+empty_rows = refl
+
+-- bytes that aren't shown, and others behind a zero
+a_name : shown (31 ∷ 32 ∷ 126 ∷ 127 ∷ 200 ∷ 0 ∷ codes "abc") ≡ codes "? ~??"
+unfolding shown
+a_name = refl
+
+compressed : lump_error_text (codes "squashed") error.Compressed ≡ codes "compressed lump squashed\n"
+unfolding shown
+compressed = refl
+
+no_picture : lump_error_text (codes "pic") error.NotPicture ≡ codes "lump pic is no picture\n"
+unfolding shown
+no_picture = refl
+
+-- the empty name has its space
+no_name : lump_error_text [] error.Absent ≡ codes "no lump \n"
+unfolding shown
+no_name = refl
+
 a_group : bad_text (codes "x.mdl") (fault.Alias (alias.Group part.Skin 3)) ≡ codes "bad alias x.mdl: group skin 3\n"
 unfolding digits
 a_group = refl
@@ -77,5 +127,8 @@ a_size : bad_text (codes "x.spr") (fault.Sprite (sprite.Size 10)) ≡ codes "bad
 unfolding digits
 a_size = refl
 
-a_wad : bad_text (codes "x.lmp") (fault.Unbuilt true) ≡ codes "bad wad x.lmp: not built\n"
-a_wad = refl
+not_built : bad_text (codes "x.lmp") fault.Unbuilt ≡ codes "bad brush x.lmp: not built\n"
+not_built = refl
+
+table_outside : bad_text (codes "w.wad") (fault.Wad wad_fault.TableOutside) ≡ codes "bad wad w.wad: table outside\n"
+table_outside = refl

@@ -8,6 +8,9 @@ use Rattle.res_table.specs.declared.kinds.Kind.TheVariants as kind
 use Rattle.res_table.specs.Images.{IsImage, told_by}
 use Rattle.sprite_load.specs.Images.{image_of as sprite_of}
 use Rattle.sprite_load.proofs.ImageLaws.{length_of_image as length_of_sprite}
+use Rattle.wad2_lumps.specs.Images.{image_of as wad_of}
+use Rattle.wad2_lumps.specs.Wads.{IsWad}
+use Rattle.wad2_lumps.proofs.ImageLaws.{is_wad}
 use Rattle.wav_load.specs.Images.{image_of as sound_of}
 use Rattle.wav_load.proofs.ImageLaws.{length_of_image as length_of_sound}
 
@@ -32,3 +35,7 @@ sprite_long image is =
 pub sound_long : (image : List ℕ) → IsImage kind.Sound image → 20 ≤ length image
 sound_long image is =
     (length_of_sound is.speed is.source image (made_of fault.Sound (sound_of is.speed is.source) image is.image)).0
+
+-- the image of a wad is a wad
+pub wad_is : (image : List ℕ) → IsImage kind.Wad image → IsWad image
+wad_is image is = is_wad is.source image (made_of fault.Wad (wad_of is.source) image is.image)

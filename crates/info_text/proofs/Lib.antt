@@ -2,3 +2,5 @@ mod DigitLaws
 mod ImageLaws
 mod Examples
 mod LineLaws
+mod RangeLaws
+mod WadLaws

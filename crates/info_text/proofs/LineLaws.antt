@@ -1,8 +1,9 @@
 -- An image line by line.
-use Rattle.std.proofs.Common.{◌≡◌, ℕ, zero, suc, ◌+◌, ◌*◌, ◌/◌, ◌<◌, min, List, [], ◌++◌, length, take, drop, refl, sym, ap, ◌∙◌, arith, length-append, inl, inr}
+use Rattle.std.proofs.Common.{◌≡◌, ℕ, zero, suc, ◌+◌, ◌*◌, ◌/◌, ◌<◌, min, List, [], ◌∷◌, ◌++◌, length, take, drop, codes, refl, sym, ap, ◌∙◌, arith, length-append, inl, inr}
 use Rattle.std.proofs.lemmas.Bool.{cases_lt}
-use Rattle.std.proofs.lemmas.List.{append-nil, nil_from_length, take_all, drop_all, drop-drop, take-append-le, drop-append-le}
+use Rattle.std.proofs.lemmas.List.{append_assoc, append-nil, nil_from_length, take_all, drop_all, drop-drop, take-append-le, drop-append-le}
 use Rattle.std.specs.List.{flat_map, range_with_len}
+use Rattle.hex.specs.Hex.{encode_lower, encode_with}
 use Rattle.info_text.specs.Dumps.{hex_line, line_at, hex_lines}
 
 -- the texts of n numbers from a + 1 on are those that another function has from a on
@@ -42,3 +43,18 @@ module _ (all bytes rest : List ℕ) (parts : all ≡ bytes ++ rest) (size : len
   next_line some =
       ap (λ (n : ℕ). flat_map (line_at all) (range_with_len 0 n)) (count some)
       ∙ rw (cut.0, shifted (line_at all) (line_at rest) later 0 ((length rest + 31) / 32)) refl
+
+-- the digits of bytes and then of others
+pub encode_append : (bytes rest : List ℕ) → encode_lower (bytes ++ rest) ≡ encode_lower bytes ++ encode_lower rest
+unfolding encode_with
+encode_append [] rest = refl
+encode_append (byte ∷ bytes) rest = rw (encode_append bytes rest) refl
+
+-- a line of bytes and then of others has the digits of the first, and then is the line of the others
+pub line_append : (bytes rest : List ℕ) → hex_line (bytes ++ rest) ≡ encode_lower bytes ++ hex_line rest
+line_append bytes rest = rw (encode_append bytes rest, append_assoc) refl
+
+-- that of no bytes
+pub empty_line : hex_line [] ≡ codes "\n"
+unfolding encode_with
+empty_line = refl

@@ -11,6 +11,8 @@ use Rattle.res_table.specs.declared.answers.Fault.{Fault}
 use Rattle.res_table.specs.declared.answers.Fault.TheVariants as fault
 use Rattle.sprite_load.specs.declared.fault.SpriteFault.{SpriteFault}
 use Rattle.sprite_load.specs.declared.fault.SpriteFault.TheVariants as sprite
+use Rattle.wad2_lumps.specs.declared.fault.WadFault.{WadFault}
+use Rattle.wad2_lumps.specs.declared.fault.WadFault.TheVariants as wad
 use Rattle.wav_load.specs.declared.fault.WavFault.{WavFault}
 use Rattle.wav_load.specs.declared.fault.WavFault.TheVariants as wav
 
@@ -58,6 +60,11 @@ sprite_wrong (sprite.Group row) = numbered (codes "group frame ") row
 sprite_wrong (sprite.Interval row) = numbered (codes "interval frame ") row
 sprite_wrong (sprite.Size row) = numbered (codes "size frame ") row
 
+-- what is wrong with a wad
+abbrev pub wad_wrong : WadFault → List ℕ
+wad_wrong wad.NotWad = codes "not wad"
+wad_wrong wad.TableOutside = codes "table outside"
+
 -- what is wrong with a sound
 abbrev pub wav_wrong : WavFault → List ℕ
 wav_wrong wav.NotRiff = codes "not riff"
@@ -74,5 +81,6 @@ wav_wrong (wav.Rate rate) = numbered (codes "rate ") rate
 abbrev pub fault_text : Fault → List ℕ
 fault_text (fault.Alias wrong) = alias_wrong wrong
 fault_text (fault.Sprite wrong) = sprite_wrong wrong
+fault_text (fault.Wad wrong) = wad_wrong wrong
 fault_text (fault.Sound wrong) = wav_wrong wrong
-fault_text (fault.Unbuilt wad) = codes "not built"
+fault_text fault.Unbuilt = codes "not built"

@@ -9,6 +9,7 @@ use Rattle.sprite_load.specs.declared.header.SpriteHeader.{SpriteHeader}
 use Rattle.sprite_load.specs.Headers.{header_in as sprite_in}
 use Rattle.wav_load.specs.declared.header.SoundHeader.{SoundHeader}
 use Rattle.wav_load.specs.Headers.{header_in as sound_in}
+use Rattle.info_text.specs.Wads.{wad_text}
 
 abbrev pub alias_text : List ℕ → AliasHeader → List ℕ
 alias_text name header = joined (codes "alias " ∷ name ∷ codes " skins " ∷ decimal header.skins
@@ -35,4 +36,5 @@ sound_text name header = joined (codes "sound " ∷ name ∷ codes " length " �
 abbrev pub info_text : Kind → (name image : List ℕ) → List ℕ
 info_text kind.Alias name image = alias_text name (alias_in image)
 info_text kind.Sprite name image = sprite_text name (sprite_in image)
+info_text kind.Wad name image = wad_text name image
 info_text kind.Sound name image = sound_text name (sound_in image)

@@ -12,6 +12,7 @@ use Rattle.info_text.specs.Faults.{fault_text}
 abbrev pub kind_text : Kind → List ℕ
 kind_text kind.Alias = codes "alias"
 kind_text kind.Sprite = codes "sprite"
+kind_text kind.Wad = codes "wad"
 kind_text kind.Sound = codes "sound"
 
 abbrev pub loaded_text : Bool → List ℕ
@@ -26,9 +27,9 @@ resource_text name res = joined (kind_text res.kind ∷ codes " " ∷ name ∷ c
 abbrev pub fault_word : Fault → List ℕ
 fault_word (fault.Alias wrong) = kind_text kind.Alias
 fault_word (fault.Sprite wrong) = kind_text kind.Sprite
+fault_word (fault.Wad wrong) = kind_text kind.Wad
 fault_word (fault.Sound wrong) = kind_text kind.Sound
-fault_word (fault.Unbuilt true) = codes "wad"
-fault_word (fault.Unbuilt false) = codes "brush"
+fault_word fault.Unbuilt = codes "brush"
 
 -- of which resource, and what is wrong
 abbrev pub bad_title : (name : List ℕ) → Fault → List ℕ

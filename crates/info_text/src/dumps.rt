@@ -1,9 +1,9 @@
 // An image in hexadecimal digits.
-ghost use Rattle.std.specs.Prelude.{◌≡◌, ◌+◌, ◌*◌, ◌≤◌, ◌<◌, length, slice_index};
-ghost use Rattle.hex.specs.Hex.{lower_digits, encode_lower};
+ghost use Rattle.std.specs.Prelude.{◌≡◌, ◌+◌, ◌*◌, ◌≤◌, length};
 ghost use Rattle.reply_pieces.specs.Pieces.{PutsText};
 ghost use Rattle.info_text.specs.Dumps.{title, hex_line, hex_lines, dump_text};
 
+use crate::digits::fill_digits;
 use base_fields::GameName;
 use outside_io::{Sink, SinkFailed};
 use reply_pieces::{Piece, put_all};
@@ -26,19 +26,6 @@ fn put_title<O: Sink>(name: &GameName, size: usize, out: &mut O) -> Result<(), S
     )
 }
 
-// A half byte as a digit: by arithmetic, which is done for many at once, where a table is read one by one.
-#[tactic(auto, using(crate::proofs::DigitLaws::digit_of_half))]
-fn digit(half: u8) -> u8
-    requires { half < 16 }
-    ensures { result ≡ slice_index lower_digits half }
-{
-    if half < 10 {
-        b'0' + half
-    } else {
-        b'a' - 10 + half
-    }
-}
-
 // The line of these bytes.
 fn fill_line(line: &mut [u8], bytes: &[u8])
     requires { length line.old ≡ 2 * length bytes.now + 1 }
@@ -47,17 +34,6 @@ fn fill_line(line: &mut [u8], bytes: &[u8])
     let (digits, end) = line.split_at_mut(2 * bytes.len());
     fill_digits(digits, bytes);
     end[0] = b'\n';
-}
-
-fn fill_digits(digits: &mut [u8], bytes: &[u8])
-    requires { length digits.old ≡ 2 * length bytes.now }
-    ensures { digits.new ≡ encode_lower bytes.now }
-{
-    for i in 0..bytes.len() {
-        let byte = bytes[i];
-        digits[2 * i] = digit(byte >> 4);
-        digits[2 * i + 1] = digit(byte & 15);
-    }
 }
 
 // Puts a line in one put.

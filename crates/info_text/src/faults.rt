@@ -2,12 +2,13 @@
 ghost use Rattle.std.specs.Prelude.{◌≡◌, ◌++◌};
 ghost use Rattle.reply_pieces.specs.Pieces.{text_of};
 ghost use Rattle.info_text.specs.Faults.{alias_wrong, fault_text, field_text, numbered, part_text};
-ghost use Rattle.info_text.specs.Faults.{row_text, sprite_wrong, wav_wrong};
+ghost use Rattle.info_text.specs.Faults.{row_text, sprite_wrong, wad_wrong, wav_wrong};
 
 use alias_load::{AliasFault, AliasField, AliasPart};
 use reply_pieces::Piece;
 use res_table::Fault;
 use sprite_load::SpriteFault;
+use wad2_lumps::WadFault;
 use wav_load::WavFault;
 
 const NONE: Piece<'static> = Piece::Text(b"");
@@ -99,6 +100,15 @@ fn sprite_pieces(fault: SpriteFault) -> [Piece<'static>; 4]
     }
 }
 
+fn wad_pieces(fault: WadFault) -> [Piece<'static>; 4]
+    ensures { text_of result ≡ wad_wrong fault }
+{
+    match fault {
+        WadFault::NotWad => word(b"not wad"),
+        WadFault::TableOutside => word(b"table outside"),
+    }
+}
+
 fn wav_pieces(fault: WavFault) -> [Piece<'static>; 4]
     ensures { text_of result ≡ wav_wrong fault }
 {
@@ -122,7 +132,8 @@ pub(crate) fn fault_pieces(fault: Fault) -> [Piece<'static>; 4]
     match fault {
         Fault::Alias(fault) => alias_pieces(fault),
         Fault::Sprite(fault) => sprite_pieces(fault),
+        Fault::Wad(fault) => wad_pieces(fault),
         Fault::Sound(fault) => wav_pieces(fault),
-        Fault::Unbuilt { .. } => word(b"not built"),
+        Fault::Unbuilt => word(b"not built"),
     }
 }

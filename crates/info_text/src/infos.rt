@@ -7,6 +7,7 @@ ghost use Rattle.sprite_load.specs.Headers.{header_in as sprite_in};
 ghost use Rattle.wav_load.specs.Headers.{header_in as sound_in};
 ghost use Rattle.info_text.specs.Infos.{alias_text, info_text, number_or_none, sound_text, sprite_text};
 
+use crate::wads::info_wad;
 use alias_load::alias_header;
 use base_fields::GameName;
 use outside_io::{Sink, SinkFailed};
@@ -122,6 +123,10 @@ pub(crate) fn info_sound<O: Sink>(
 ///   has, the pictures of all skins, and the poses of all frames.
 /// - Of a sprite it is `sprite NAME type A frames B pictures C`: how it is turned to the view, how many frames it has,
 ///   and the pictures of all frames.
+/// - Of a wad it is `wad NAME lumps N`, how many lumps it has, and then a line for each row of its table, in order:
+///   `lump I LUMP type T size S compression C`, with the number of the row from 0 on, the name, the type, the length of
+///   the lump in bytes once it is unpacked, and how it is compressed, 0 for not at all. The name ends at its first zero
+///   byte, and has `?` for a byte outside 32 to 126.
 /// - Of a sound it is `sound NAME length L loop P speed S width W`: its length in samples, the sample at which its loop
 ///   begins or `none`, its samples a second, and the bytes of a sample.
 ///
@@ -138,6 +143,7 @@ pub fn info<O: Sink>(
     match kind {
         Kind::Alias => info_alias(name, image, out),
         Kind::Sprite => info_sprite(name, image, out),
+        Kind::Wad => info_wad(name, image, out),
         Kind::Sound => info_sound(name, image, out),
     }
 }

@@ -1,14 +1,21 @@
 //! The texts that tell of a resource: that it is there, why the bytes of a file are none, its image in hexadecimal
-//! digits, and what the image says of it.
+//! digits, what the image says of it, and a picture of a wad.
 #![tactic(auto)]
 
+mod digits;
 mod dumps;
 mod faults;
 mod infos;
 mod lines;
+mod lump_errors;
+mod lump_names;
+mod pictures;
 #[cfg(test)]
 mod tests;
+mod wads;
 
 pub use dumps::dump;
 pub use infos::info;
 pub use lines::{put_bad, put_resource};
+pub use lump_errors::{LumpError, put_lump_error};
+pub use pictures::put_picture;

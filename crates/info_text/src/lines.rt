@@ -15,6 +15,7 @@ fn kind_text(kind: Kind) -> &'static [u8]
     match kind {
         Kind::Alias => b"alias",
         Kind::Sprite => b"sprite",
+        Kind::Wad => b"wad",
         Kind::Sound => b"sound",
     }
 }
@@ -25,8 +26,8 @@ fn loaded_text(loaded: bool) -> &'static [u8]
     if loaded { b"loaded" } else { b"present" }
 }
 
-/// Puts `KIND NAME SIZE at PLACE loaded` of a resource that was loaded now, and with `present` of one that was there. KIND
-/// is `alias`, `sprite` or `sound`, and the size is that of its image in bytes, which begins at the place.
+/// Puts `KIND NAME SIZE at PLACE loaded` of a resource that was loaded now, and with `present` of one that was there.
+/// KIND is `alias`, `sprite`, `wad` or `sound`, and the size is that of its image in bytes, which begins at the place.
 ///
 /// It takes no memory. After an error a front of the text was put.
 pub fn put_resource<O: Sink>(name: &GameName, res: &Res, out: &mut O) -> Result<(), SinkFailed>
@@ -57,8 +58,8 @@ fn fault_word(fault: Fault) -> &'static [u8]
         Fault::Alias(_) => kind_text(Kind::Alias),
         Fault::Sprite(_) => kind_text(Kind::Sprite),
         Fault::Sound(_) => kind_text(Kind::Sound),
-        Fault::Unbuilt { wad: true } => b"wad",
-        Fault::Unbuilt { wad: false } => b"brush",
+        Fault::Wad(_) => kind_text(Kind::Wad),
+        Fault::Unbuilt => b"brush",
     }
 }
 
@@ -86,7 +87,8 @@ fn put_title<O: Sink>(name: &GameName, fault: Fault, out: &mut O) -> Result<(), 
 ///   or `size frame R`.
 /// - Of a sound it is `not riff`, `no fmt`, `not pcm`, `not mono`, `width`, `no data`, `bad loop`, `too long`, or
 ///   `rate S` with its samples a second.
-/// - Of a model that isn't built it is `not built`, and KIND is `wad` or `brush`.
+/// - Of a wad it is `not wad` or `table outside`.
+/// - Of a brush it is `not built`, whatever its bytes are.
 ///
 /// It takes no memory. After an error a front of the text was put.
 pub fn put_bad<O: Sink>(name: &GameName, fault: Fault, out: &mut O) -> Result<(), SinkFailed>

@@ -10,6 +10,8 @@ use std::process::Abort;
 use std::test::Fail;
 use wav_load::WavFault;
 
+mod wads;
+
 // The bytes from 0 on.
 const BYTES: [u8; 64] = [
     0, 1, 2, 3, 4, 5, 6, 7, 8, 9, 10, 11, 12, 13, 14, 15, 16, 17, 18, 19, 20, 21, 22, 23, 24, 25,
@@ -296,7 +298,7 @@ fn a_sprite_has_its_line(rt: HostRuntime) -> Result<(), Fail> {
 fn a_resource_has_its_line(rt: HostRuntime) -> Result<(), Fail> {
     let alloc = rt.alloc();
     let name = game_name(b"a/x.y").expect(&rt, "a name");
-    let cases: [(Kind, u32, u32, bool, &[u8]); 4] = [
+    let cases: [(Kind, u32, u32, bool, &[u8]); 5] = [
         (
             Kind::Alias,
             188,
@@ -311,6 +313,7 @@ fn a_resource_has_its_line(rt: HostRuntime) -> Result<(), Fail> {
             false,
             b"sprite a/x.y 73 at 48 present\n",
         ),
+        (Kind::Wad, 90, 48, true, b"wad a/x.y 90 at 48 loaded\n"),
         (
             Kind::Sound,
             22,
@@ -395,12 +398,10 @@ fn each_fault_of_a_sound_has_its_line(rt: HostRuntime) -> Result<(), Fail> {
 
 #[test]
 fn a_model_that_is_not_built_has_its_line(rt: HostRuntime) -> Result<(), Fail> {
-    let cases: [(bool, &[u8]); 2] = [
-        (true, b"bad wad x: not built\n"),
-        (false, b"bad brush x: not built\n"),
-    ];
-    for (wad, text) in cases {
-        tells(&rt, rt.alloc(), Fault::Unbuilt { wad }, &[text])?;
-    }
-    Ok(())
+    tells(
+        &rt,
+        rt.alloc(),
+        Fault::Unbuilt,
+        &[b"bad brush x: not built\n"],
+    )
 }

@@ -1,4 +1,4 @@
-use Rattle.info_text.proofs.ImageLaws.{alias_long, sprite_long, sound_long}
+use Rattle.info_text.proofs.ImageLaws.{alias_long, sprite_long, wad_is, sound_long}
 use Rattle.info_text.proofs.infos.info.Goals as goal
 
 pub info_alias-requires : goal.info_alias-requires
@@ -6,6 +6,9 @@ info_alias-requires g c = alias_long c.args.image.now (rw c.in-Alias.is at c.req
 
 pub info_sprite-requires : goal.info_sprite-requires
 info_sprite-requires g c = sprite_long c.args.image.now (rw c.in-Sprite.is at c.requires)
+
+pub info_wad-requires : goal.info_wad-requires
+info_wad-requires g c = wad_is c.args.image.now (rw c.in-Wad.is at c.requires)
 
 pub info_sound-requires : goal.info_sound-requires
 info_sound-requires g c = sound_long c.args.image.now (rw c.in-Sound.is at c.requires)

@@ -2,7 +2,7 @@ use Rattle.std.proofs.Common.{◌∙◌, ℕ, slice_index, ap, arith}
 use Rattle.std.proofs.lemmas.Nat.{and_mask}
 use Rattle.hex.specs.Hex.{lower_digits}
 use Rattle.hex.proofs.Pairs.{encode_step, encode_done}
-use Rattle.info_text.proofs.dumps.fill_digits.Goals as goal
+use Rattle.info_text.proofs.digits.fill_digits.Goals as goal
 
 pub loop-i-preserved : goal.loop-i-preserved
 loop-i-preserved c =
