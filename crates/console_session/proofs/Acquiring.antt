@@ -5,6 +5,7 @@ use Rattle.std.specs.Bool.{OnFalse}
 use Rattle.base_fields.specs.Names.{is_game_name}
 use Rattle.outside_io.specs.declared.outside.Folder.{Ghosts as FolderGhosts}
 use Rattle.outside_io.specs.declared.outside.Sink.{Ghosts as SinkGhosts}
+use Rattle.info_text.specs.Lines.{resource_text}
 use Rattle.mem_model.specs.Laid.{Laid}
 use Rattle.mem_model.specs.Memory.{Memory}
 use Rattle.mem_model.specs.declared.store.Store.{Ghosts as StoreGhosts}
@@ -22,7 +23,8 @@ use Rattle.res_table.specs.declared.answers.AcquireError.{AcquireError}
 use Rattle.res_table.specs.declared.answers.AcquireError.TheVariants as why
 use Rattle.res_table.specs.declared.answers.Res.{Res}
 use Rattle.res_table.specs.declared.kinds.Table.{Table}
-use Rattle.console_session.specs.Commands.{acquire_named, acquired_text, answer_acquire, bad_name, with_acquired}
+use Rattle.res_table.specs.declared.kinds.Table.TheVariants.{Models}
+use Rattle.console_session.specs.Commands.{acquire_named, acquired_text, answer_acquire, answer_wad, bad_name, by_resource, wad_after, wad_text, with_acquired}
 use Rattle.console_session.specs.Holding.{Holds, IsLowMark}
 use Rattle.console_session.specs.Serving.{seen, path_of, faults_in, calls_in, Does}
 use Rattle.console_session.specs.States.{State, PathSeen, Done, Told, asks, CauseOf, Follows}
@@ -38,56 +40,56 @@ use Rattle.console_session.proofs.Loading.{same_path, same_folders}
 use Rattle.console_session.proofs.Marking.{mark_below}
 use Rattle.console_session.proofs.Serving.{does_as}
 
--- the state with another memory and other tables
-abbrev with_both : State → Memory → Resources → State
-with_both s m table = record s { memory = m; table = table }
+-- the state with another memory, other tables and another current wad
+abbrev with_parts : State → Memory → Resources → Option (List ℕ) → State
+with_parts s m table wad = record s { memory = m; table = table; wad = wad }
 
-module _ (needed : Bool) (name file : List ℕ) (s after : State) (m : Memory) (table : Resources) (moved : after ≡ with_both s m table) (result : Result Next Fault) (start now : Option (List ℕ)) where
+module _ (needed : Bool) (tells : Res → List ℕ) (wad : Result Res AcquireError → Option (List ℕ)) (name file : List ℕ) (s after : State) (m : Memory) (table : Resources) (result : Result Next Fault) (start now : Option (List ℕ)) where
   abbrev done : Acquired → Done
   done given = record {
-    after = with_both s given.after given.table;
-    reply = record { text = acquired_text name file given.answer; load = needed; takes = needed };
+    after = with_parts s given.after given.table (wad given.answer);
+    reply = record { text = acquired_text tells name file given.answer; load = needed; takes = needed };
     next = Goes;
   }
 
   -- what was acquired is told
-  acquired_so : (given : Acquired) (answer : Result Res AcquireError) → IsAcquired given answer table m → Tells (Ok (acquired_text name file answer)) Goes result start now → Follows (Told (done given)) result after start now
-  acquired_so given answer is tells =
-      follows (done given) (Ok (acquired_text name file answer)) result after start now
-      (ap (acquired_text name file) is.answer, refl, moved ∙ ap (λ (n : Memory). with_both s n table) is.after ∙ ap (with_both s given.after) is.table_is) tells
+  acquired_so : (given : Acquired) (answer : Result Res AcquireError) → after ≡ with_parts s m table (wad answer) → IsAcquired given answer table m → Tells (Ok (acquired_text tells name file answer)) Goes result start now → Follows (Told (done given)) result after start now
+  acquired_so given answer moved is told =
+      follows (done given) (Ok (acquired_text tells name file answer)) result after start now
+      (ap (acquired_text tells name file) is.answer, refl, moved ∙ ap (λ (n : Memory). with_parts s n table (wad answer)) is.after ∙ ap (λ (t : Resources). with_parts s given.after t (wad answer)) is.table_is ∙ ap (λ (a : Result Res AcquireError). with_parts s given.after given.table (wad a)) (sym is.answer)) told
 
-  acquired_given : (given : Acquired) (answer : Result Res AcquireError) → Acquires needed given answer table m → Tells (acquired_told name file answer) Goes result start now → Follows (Told (done given)) result after start now
-  acquired_given given (Ok res) is tells = acquired_so given (Ok res) is tells
-  acquired_given given (Err why.TableFull) is tells = acquired_so given (Err why.TableFull) is tells
-  acquired_given given (Err why.NotFound) is tells = acquired_so given (Err why.NotFound) is tells
-  acquired_given given (Err (why.BeyondPack end whole)) is tells = acquired_so given (Err (why.BeyondPack end whole)) is tells
-  acquired_given given (Err (why.Bad wrong)) is tells = acquired_so given (Err (why.Bad wrong)) is tells
-  acquired_given given (Err (why.NoRoom asked room)) is tells = acquired_so given (Err (why.NoRoom asked room)) is tells
-  acquired_given given (Err (why.FolderFault folder)) is tells = follows (done given) (Err (fault.Folder folder)) result after start now is tells
-  acquired_given given (Err why.OutOfMemory) is tells = follows (done given) (Err fault.Memory) result after start now is tells
+  acquired_given : (given : Acquired) (answer : Result Res AcquireError) → after ≡ with_parts s m table (wad answer) → Acquires needed given answer table m → Tells (acquired_told tells name file answer) Goes result start now → Follows (Told (done given)) result after start now
+  acquired_given given (Ok res) moved is told = acquired_so given (Ok res) moved is told
+  acquired_given given (Err why.TableFull) moved is told = acquired_so given (Err why.TableFull) moved is told
+  acquired_given given (Err why.NotFound) moved is told = acquired_so given (Err why.NotFound) moved is told
+  acquired_given given (Err (why.BeyondPack end whole)) moved is told = acquired_so given (Err (why.BeyondPack end whole)) moved is told
+  acquired_given given (Err (why.Bad wrong)) moved is told = acquired_so given (Err (why.Bad wrong)) moved is told
+  acquired_given given (Err (why.NoRoom asked room)) moved is told = acquired_so given (Err (why.NoRoom asked room)) moved is told
+  acquired_given given (Err (why.FolderFault folder)) moved is told = follows (done given) (Err (fault.Folder folder)) result after start now is told
+  acquired_given given (Err why.OutOfMemory) moved is told = follows (done given) (Err fault.Memory) result after start now is told
 
-  pub acquired_follows : (given : Option Acquired) (answer : Result Res AcquireError) → IfSome given (λ g. Acquires needed g answer table m) → Tells (acquired_told name file answer) Goes result start now
-      → Follows (with_acquired needed name file s given) result after start now
-  acquired_follows None answer is tells = still_put (acquired_told name file answer) Goes result start now tells
-  acquired_follows (Some given) answer is tells = acquired_given given answer is tells
+  pub acquired_follows : (given : Option Acquired) (answer : Result Res AcquireError) → after ≡ with_parts s m table (wad answer) → IfSome given (λ g. Acquires needed g answer table m) → Tells (acquired_told tells name file answer) Goes result start now
+      → Follows (with_acquired needed tells wad name file s given) result after start now
+  acquired_follows None answer moved is told = still_put (acquired_told tells name file answer) Goes result start now told
+  acquired_follows (Some given) answer moved is told = acquired_given given answer moved is told
 
 -- a file isn't asked for where the resource is there
-unasked : (P : Type 0) (name file : List ℕ) (s : State) (before given : Option Acquired) → IfSome before (λ _. P) → OnFalse (asks (with_acquired (is_none before) name file s given)) P
-unasked P name file s None None same = tt
-unasked P name file s None (Some given) same = tt
-unasked P name file s (Some before) None same = tt
-unasked P name file s (Some before) (Some given) same = same
+unasked : (P : Type 0) (tells : Res → List ℕ) (wad : Result Res AcquireError → Option (List ℕ)) (name file : List ℕ) (s : State) (before given : Option Acquired) → IfSome before (λ _. P) → OnFalse (asks (with_acquired (is_none before) tells wad name file s given)) P
+unasked P tells wad name file s None None same = tt
+unasked P tells wad name file s None (Some given) same = tt
+unasked P tells wad name file s (Some before) None same = tt
+unasked P tells wad name file s (Some before) (Some given) same = same
 
-acquire_cause : (name file : List ℕ) (frugal : Bool) (a b : List ℕ) (s t : ℕ) (answer : Result Res AcquireError) → IfErr answer (IsAcquireFault a b) → (IsErrOf answer why.OutOfMemory → frugal ≡ false)
-    → IfErr (acquired_told name file answer) (λ e. CauseOf frugal a b s t e)
-acquire_cause name file frugal a b s t (Ok res) is memory = tt
-acquire_cause name file frugal a b s t (Err why.TableFull) is memory = tt
-acquire_cause name file frugal a b s t (Err why.NotFound) is memory = tt
-acquire_cause name file frugal a b s t (Err (why.BeyondPack end whole)) is memory = tt
-acquire_cause name file frugal a b s t (Err (why.Bad wrong)) is memory = tt
-acquire_cause name file frugal a b s t (Err (why.NoRoom asked room)) is memory = tt
-acquire_cause name file frugal a b s t (Err (why.FolderFault folder)) is memory = is
-acquire_cause name file frugal a b s t (Err why.OutOfMemory) is memory = memory refl
+acquire_cause : (tells : Res → List ℕ) (name file : List ℕ) (frugal : Bool) (a b : List ℕ) (s t : ℕ) (answer : Result Res AcquireError) → IfErr answer (IsAcquireFault a b) → (IsErrOf answer why.OutOfMemory → frugal ≡ false)
+    → IfErr (acquired_told tells name file answer) (λ e. CauseOf frugal a b s t e)
+acquire_cause tells name file frugal a b s t (Ok res) is memory = tt
+acquire_cause tells name file frugal a b s t (Err why.TableFull) is memory = tt
+acquire_cause tells name file frugal a b s t (Err why.NotFound) is memory = tt
+acquire_cause tells name file frugal a b s t (Err (why.BeyondPack end whole)) is memory = tt
+acquire_cause tells name file frugal a b s t (Err (why.Bad wrong)) is memory = tt
+acquire_cause tells name file frugal a b s t (Err (why.NoRoom asked room)) is memory = tt
+acquire_cause tells name file frugal a b s t (Err (why.FolderFault folder)) is memory = is
+acquire_cause tells name file frugal a b s t (Err why.OutOfMemory) is memory = memory refl
 
 module _ {M F O : Type 0} (store : StoreGhosts M) (folder : FolderGhosts F) (sink : SinkGhosts O) (table : Table) (name : List ℕ) (old new : Console M F) (before now : O) (answer : Result Res AcquireError) (result : Result Next Fault) where
   abbrev s : State
@@ -96,27 +98,27 @@ module _ {M F O : Type 0} (store : StoreGhosts M) (folder : FolderGhosts F) (sin
   abbrev file : List ℕ
   file = file_of table name
 
-  pub does_acquired : IsTrue (is_game_name (file_of table name))
+  -- what a command does that acquires
+  pub does_resource : (tells : Res → List ℕ) (wad : Result Res AcquireError → Option (List ℕ))
       → IfSome (acquire s.table s.memory table name (load_temp s.path.mounts s.memory (file_of table name))) (λ given. Acquires (is_none (answered_before s.table s.memory table name)) given answer new.table (store.state new.store))
       → IfSome (answered_before s.table s.memory table name) (λ _. new.paths ≡ old.paths)
-      → seen store folder new ≡ record s { memory = store.state new.store; path = path_of folder new.paths; table = new.table }
+      → seen store folder new ≡ record s { memory = store.state new.store; path = path_of folder new.paths; table = new.table; wad = wad answer }
       → Holds s → Laid (store.state new.store) → AreHeld (told_mounts folder.files new.paths) new.table (store.state new.store) → GrowsLow s.memory (store.state new.store) → (store.state new.store).zone ≡ s.memory.zone
       → SamePath folder.files old.paths new.paths → NoneFalls (faults_in folder old) (faults_in folder new) → IfErr answer (IsAcquireFault (faults_in folder old) (faults_in folder new)) → (IsErrOf answer why.OutOfMemory → store.frugal ≡ false)
-      → Puts sink (acquired_told name (file_of table name) answer) Goes before now result → Does store folder sink (answer_acquire table (Some name)) old new before now result
-  does_acquired lawful told same others h laid held low zone path faults cause memory puts =
-      does_as store folder sink old new before now result (answer_acquire table (Some name)) (acquire_named table name) (ap (λ (b : Bool). if b then acquire_named table name s else bad_name s) lawful) (record {
-        told = acquired_follows needed name file s (seen store folder new) m new.table moved result (sink.got before) (sink.got now) given answer told puts.told;
-        path = stands;
-        holds = subst (λ (t : State). Holds t) (sym moved) (holds_parts s m new.table h laid held_here (subst (λ l. IsLowMark l s.level) (sym low.1) (mark_below s.memory.low low.0 s.level h.level)) zone);
-        causes = record {
-          none_falls = faults;
-          folders = same_folders folder old.paths new.paths path;
-          sink_counts = puts.counts;
-          cause = cause_told Goes store.frugal (faults_in folder old) (faults_in folder new) (sink.sink_faults before) (sink.sink_faults now) (acquired_told name file answer) result (sink.got before) (sink.got now) puts.told puts.cause
-              (acquire_cause name file store.frugal (faults_in folder old) (faults_in folder new) (sink.sink_faults before) (sink.sink_faults now) answer cause memory);
-        };
-        calls = unasked (calls_in folder new ≡ calls_in folder old) name file s (answered_before s.table s.memory table name) given (no_calls (answered_before s.table s.memory table name) same);
-      })
+      → Puts sink (acquired_told tells name (file_of table name) answer) Goes before now result → Does store folder sink (by_resource tells wad table name) old new before now result
+  does_resource tells wad told same others h laid held low zone path faults cause memory puts = record {
+    told = acquired_follows needed tells wad name file s (seen store folder new) m new.table result (sink.got before) (sink.got now) given answer moved told puts.told;
+    path = stands;
+    holds = subst (λ (t : State). Holds t) (sym moved) (holds_parts s m new.table (wad answer) h laid held_here (subst (λ l. IsLowMark l s.level) (sym low.1) (mark_below s.memory.low low.0 s.level h.level)) zone);
+    causes = record {
+      none_falls = faults;
+      folders = same_folders folder old.paths new.paths path;
+      sink_counts = puts.counts;
+      cause = cause_told Goes store.frugal (faults_in folder old) (faults_in folder new) (sink.sink_faults before) (sink.sink_faults now) (acquired_told tells name file answer) result (sink.got before) (sink.got now) puts.told puts.cause
+          (acquire_cause tells name file store.frugal (faults_in folder old) (faults_in folder new) (sink.sink_faults before) (sink.sink_faults now) answer cause memory);
+    };
+    calls = unasked (calls_in folder new ≡ calls_in folder old) tells wad name file s (answered_before s.table s.memory table name) given (no_calls (answered_before s.table s.memory table name) same);
+  }
     where
       needed : Bool
       needed = is_none (answered_before s.table s.memory table name)
@@ -130,8 +132,8 @@ module _ {M F O : Type 0} (store : StoreGhosts M) (folder : FolderGhosts F) (sin
       stands : path_of folder new.paths ≡ path_of folder old.paths
       stands = same_path folder old.paths new.paths path
 
-      moved : seen store folder new ≡ with_both s m new.table
-      moved = others ∙ ap (λ (p : PathSeen). record s { memory = m; path = p; table = new.table }) stands
+      moved : seen store folder new ≡ with_parts s m new.table (wad answer)
+      moved = others ∙ ap (λ (p : PathSeen). record s { memory = m; path = p; table = new.table; wad = wad answer }) stands
 
       held_here : AreHeld s.path.mounts new.table m
       held_here = subst (λ (ms : List (Option Mount)). AreHeld ms new.table m) (ap (λ (p : PathSeen). p.mounts) stands) held
@@ -139,3 +141,13 @@ module _ {M F O : Type 0} (store : StoreGhosts M) (folder : FolderGhosts F) (sin
       no_calls : (before : Option Acquired) → IfSome before (λ _. new.paths ≡ old.paths) → IfSome before (λ _. calls_in folder new ≡ calls_in folder old)
       no_calls None is = tt
       no_calls (Some before) is = ap (λ (p : PathState F). counts_of folder.folder_calls p) is
+
+  -- the model of a name is to be the current wad
+  pub does_wad : Does store folder sink (by_resource (wad_text name) (wad_after s.wad name) Models name) old new before now result → Does store folder sink (answer_wad (Some name)) old new before now result
+  does_wad does =
+      does_as store folder sink old new before now result (answer_wad (Some name)) (by_resource (wad_text name) (wad_after s.wad name) Models name) refl does
+
+  -- the same where a name without a lawful file is refused
+  pub does_acquired : IsTrue (is_game_name (file_of table name)) → Does store folder sink (by_resource (resource_text name) (λ answer. s.wad) table name) old new before now result → Does store folder sink (answer_acquire table (Some name)) old new before now result
+  does_acquired lawful does =
+      does_as store folder sink old new before now result (answer_acquire table (Some name)) (by_resource (resource_text name) (λ answer. s.wad) table name) (ap (λ (b : Bool). if b then acquire_named table name s else bad_name s) lawful) does

@@ -1,6 +1,6 @@
 -- Where all mounts are told, each command is, and each run is told to its end.
 use Prim.Native.Nat.{zero, suc}
-use Rattle.std.proofs.Common.{◌≡◌, ℕ, List, [], length, map, Bool, true, false, eqb, Option, Some, None, option_map, Ok, Err, refl, sym, ◌∙◌, ap, subst, if◌then◌else◌}
+use Rattle.std.proofs.Common.{◌≡◌, ℕ, List, [], length, map, Bool, true, false, eqb, Option, Some, None, option_map, Result, Ok, Err, refl, sym, ◌∙◌, ap, subst, if◌then◌else◌}
 use Rattle.std.specs.Prelude.{codes, is_none}
 use Rattle.std.specs.Option.{option_or}
 use Rattle.base_fields.specs.Names.{is_game_name}
@@ -14,13 +14,16 @@ use Rattle.cvar_table.specs.Cvars.{cvar_value}
 use Rattle.file_load.specs.Loads.{Load, Missing, Beyond, NoRoom, At, Loading, load_low, load_temp, low_load, temp_load}
 use Rattle.info_text.specs.Dumps.{dump_text}
 use Rattle.info_text.specs.Infos.{info_text}
+use Rattle.info_text.specs.Lines.{resource_text}
 use Rattle.res_table.specs.Acquire.{Acquired, acquire, answered_after, answered_before}
 use Rattle.res_table.specs.Images.{file_of}
+use Rattle.res_table.specs.declared.answers.AcquireError.{AcquireError}
+use Rattle.res_table.specs.declared.answers.Res.{Res}
 use Rattle.res_table.specs.declared.kinds.Kind.{Kind}
 use Rattle.res_table.specs.declared.kinds.Table.{Table}
 use Rattle.res_table.specs.declared.kinds.Table.TheVariants.{Models, Sounds}
 use Rattle.console_session.specs.States.{State, Done, Did, Told, Untold, says}
-use Rattle.console_session.specs.Commands.{acquire_named, answer_acquire, bad_name, by_image, table_in, with_acquired, word_at, with_load, with_told, by_load, shown_file, inserted_file, of_number_and_name, reserve_block, video_block, list_aliases, make_alias, make_cvar, cvar_text, by_cvar, by_alias, by_verb, by_words, by_text, command, name_in, number_in}
+use Rattle.console_session.specs.Commands.{acquire_named, answer_acquire, answer_wad, wad_text, wad_after, bad_name, by_image, by_resource, table_in, with_acquired, word_at, with_load, with_told, by_load, shown_file, inserted_file, of_number_and_name, reserve_block, video_block, list_aliases, make_alias, make_cvar, cvar_text, by_cvar, by_alias, by_verb, by_words, by_text, command, name_in, number_in}
 use Rattle.console_session.specs.Verbs.{verb_of}
 use Rattle.console_session.specs.Frames.{Ended, Ran, ending, gone_on, continued, frame, overflowed, line, IsRun, IsCutShort, GoesAs, Runs}
 use Rattle.console_session.specs.declared.ends.Fault.{Fault}
@@ -65,21 +68,28 @@ module _ (s : State) (mounts : List Mount) (told : AllTold s mounts) where
   knows_block did each (Some size) None = refl
   knows_block did each (Some size) (Some name) = each size name
 
-  knows_given : (needed : Bool) (name file : List ℕ) (before : Option Acquired) (after : Acquired) → Knows s (with_acquired needed name file s (option_or before (Some after)))
-  knows_given needed name file None after = refl
-  knows_given needed name file (Some given) after = refl
+  knows_given : (needed : Bool) (tells : Res → List ℕ) (wad : Result Res AcquireError → Option (List ℕ)) (name file : List ℕ) (before : Option Acquired) (after : Acquired) → Knows s (with_acquired needed tells wad name file s (option_or before (Some after)))
+  knows_given needed tells wad name file None after = refl
+  knows_given needed tells wad name file (Some given) after = refl
 
   -- a resource that is acquired over such mounts is told
-  knows_acquire : (table : Table) (name : Option (List ℕ)) → Knows s (answer_acquire table name s)
-  knows_acquire table None = refl
-  knows_acquire table (Some name) =
+  knows_resource : (tells : Res → List ℕ) (wad : Result Res AcquireError → Option (List ℕ)) (table : Table) (name : List ℕ) → Knows s (by_resource tells wad table name s)
+  knows_resource tells wad table name =
       let file = file_of table name in
       let before = answered_before s.table s.memory table name in
       let given : Loading = temp_load s.memory file (find_in file mounts) in
       let known : load_temp s.path.mounts s.memory file ≡ Some given = ap (λ (ms : List (Option Mount)). load_temp ms s.memory file) told ∙ ap (option_map (temp_load s.memory file)) (find_told-all file mounts) in
-      by_test s (is_game_name file) (acquire_named table name s) (bad_name s)
-      (subst (λ (loading : Option Loading). Knows s (with_acquired (is_none before) name file s (acquire s.table s.memory table name loading))) (sym known)
-      (knows_given (is_none before) name file before (answered_after s.table s.memory table name given))) refl
+      subst (λ (loading : Option Loading). Knows s (with_acquired (is_none before) tells wad name file s (acquire s.table s.memory table name loading))) (sym known)
+      (knows_given (is_none before) tells wad name file before (answered_after s.table s.memory table name given))
+
+  knows_acquire : (table : Table) (name : Option (List ℕ)) → Knows s (answer_acquire table name s)
+  knows_acquire table None = refl
+  knows_acquire table (Some name) =
+      by_test s (is_game_name (file_of table name)) (acquire_named table name s) (bad_name s) (knows_resource (resource_text name) (λ answer. s.wad) table name) refl
+
+  knows_wad : (name : Option (List ℕ)) → Knows s (answer_wad name s)
+  knows_wad None = refl
+  knows_wad (Some name) = knows_resource (wad_text name) (wad_after s.wad name) Models name
 
   knows_image : (tells : Kind → (name image : List ℕ) → List ℕ) (table : Option Table) (name : Option (List ℕ)) → Knows s (by_image tells table name s)
   knows_image tells None name = refl
@@ -113,6 +123,8 @@ module _ (s : State) (mounts : List Mount) (told : AllTold s mounts) where
     knows_verb (Some verb.Model) = knows_acquire Models (name_in 1 words)
     knows_verb (Some verb.Info) = knows_image info_text (table_in 1 words) (name_in 2 words)
     knows_verb (Some verb.Dump) = knows_image (λ kind. dump_text) (table_in 1 words) (name_in 2 words)
+    knows_verb (Some verb.Wad) = knows_wad (name_in 1 words)
+    knows_verb (Some verb.Pic) = refl
 
     knows_words : Knows s (by_words words s)
     knows_words = by_test s (eqb (length words) 0) (says s Goes []) (by_verb (verb_of (word_at 0 words)) words s) refl (knows_verb (verb_of (word_at 0 words)))

@@ -12,3 +12,4 @@ pub mod Taking
 pub mod Wording
 pub mod Clearing
 pub mod Acquiring
+pub mod Picturing

@@ -1,6 +1,6 @@
 -- The commands.
-use Rattle.std.specs.Prelude.{ℕ, Bool, ◌==◌, if◌then◌else◌, List, [], ◌∷◌, ◌++◌, length, bytes_eq, is_none}
-use Rattle.std.specs.Prelude.{drop, slice_index_or, Option, Some, None, Result, Ok, Err, codes, decimal}
+use Rattle.std.specs.Prelude.{ℕ, Bool, true, false, ◌==◌, if◌then◌else◌, List, [], ◌∷◌, ◌++◌, length, bytes_eq, is_none}
+use Rattle.std.specs.Prelude.{drop, slice_index_or, Option, Some, None, option_and_then, Result, Ok, Err, codes, decimal}
 use Rattle.base_fields.specs.Names.{lawful_name, base_of, is_game_name}
 use Rattle.base_fields.specs.Numbers.{number_of}
 use Rattle.base_fields.specs.Texts.{until_zero}
@@ -28,8 +28,11 @@ use Rattle.res_table.specs.declared.answers.AcquireError.{AcquireError}
 use Rattle.res_table.specs.declared.answers.AcquireError.TheVariants as acquire_error
 use Rattle.res_table.specs.declared.answers.Res.{Res}
 use Rattle.res_table.specs.declared.kinds.Kind.{Kind}
+use Rattle.res_table.specs.declared.kinds.Kind.TheVariants as kind
 use Rattle.res_table.specs.declared.kinds.Table.{Table}
 use Rattle.res_table.specs.declared.kinds.Table.TheVariants.{Models, Sounds}
+use Rattle.wad2_lumps.specs.Names.{cleaned}
+use Rattle.console_session.specs.Pictures.{lump_text}
 use Rattle.console_session.specs.Verbs.{verb_of}
 use Rattle.console_session.specs.States.{State, Did, Told, Untold, says, takes, loads}
 use Rattle.console_session.specs.declared.ends.Next.TheVariants.{Goes, Waits, Quits}
@@ -182,29 +185,58 @@ refused_text name file (acquire_error.NoRoom asked room) = short_text asked
 refused_text name file (acquire_error.FolderFault folder) = []
 refused_text name file acquire_error.OutOfMemory = []
 
-abbrev pub acquired_text : (name file : List ℕ) → Result Res AcquireError → List ℕ
-acquired_text name file (Ok res) = resource_text name res
-acquired_text name file (Err error) = refused_text name file error
+-- what is told of acquiring, where `tells` says what is told of a resource
+abbrev pub acquired_text : (tells : Res → List ℕ) → (name file : List ℕ) → Result Res AcquireError → List ℕ
+acquired_text tells name file (Ok res) = tells res
+acquired_text tells name file (Err error) = refused_text name file error
 
--- a resource was acquired; where its file was needed, it was asked for, and so was memory
-abbrev pub with_acquired : (needed : Bool) → (name file : List ℕ) → State → Option Acquired → Did
-with_acquired needed name file s None = Untold
-with_acquired needed name file s (Some given) = Told (record {
-  after = record s { memory = given.after; table = given.table };
-  reply = record { text = acquired_text name file given.answer; load = needed; takes = needed };
+-- A resource was acquired; where its file was needed, it was asked for, and so was memory. `wad` says which wad is the current
+-- one after an answer.
+abbrev pub with_acquired : (needed : Bool) → (tells : Res → List ℕ) → (wad : Result Res AcquireError → Option (List ℕ))
+    → (name file : List ℕ) → State → Option Acquired → Did
+with_acquired needed tells wad name file s None = Untold
+with_acquired needed tells wad name file s (Some given) = Told (record {
+  after = record s { memory = given.after; table = given.table; wad = wad given.answer };
+  reply = record { text = acquired_text tells name file given.answer; load = needed; takes = needed };
   next = Goes;
 })
 
-abbrev pub acquire_named : Table → List ℕ → State → Did
-acquire_named table name s =
-    with_acquired (is_none (answered_before s.table s.memory table name)) name (file_of table name) s
+-- a command that acquires the resource of a name
+abbrev pub by_resource : (tells : Res → List ℕ) → (wad : Result Res AcquireError → Option (List ℕ))
+    → Table → (name : List ℕ) → State → Did
+by_resource tells wad table name s =
+    with_acquired (is_none (answered_before s.table s.memory table name)) tells wad name (file_of table name) s
     (acquire s.table s.memory table name (load_temp s.path.mounts s.memory (file_of table name)))
+
+abbrev pub acquire_named : Table → List ℕ → State → Did
+acquire_named table name s = by_resource (resource_text name) (λ answer. s.wad) table name s
 
 -- the resource of a name is acquired, where the name and that of its file are lawful
 abbrev pub answer_acquire : Table → Option (List ℕ) → State → Did
 answer_acquire table None s = bad_name s
 answer_acquire table (Some name) s =
     if is_game_name (file_of table name) then acquire_named table name s else bad_name s
+
+abbrev pub is_wad : Kind → Bool
+is_wad kind.Wad = true
+is_wad other = false
+
+abbrev pub not_wad_text : List ℕ → List ℕ
+not_wad_text name = joined (name ∷ codes " is no wad\n" ∷ [])
+
+-- what is told of a model that is to be the current wad
+abbrev pub wad_text : List ℕ → Res → List ℕ
+wad_text name res = if is_wad res.kind then resource_text name res else not_wad_text name
+
+-- the current wad after that: the model, where it was acquired and is a wad
+abbrev pub wad_after : (old : Option (List ℕ)) → (name : List ℕ) → Result Res AcquireError → Option (List ℕ)
+wad_after old name (Ok res) = if is_wad res.kind then Some name else old
+wad_after old name (Err error) = old
+
+-- the model of a name is acquired, to be the current wad
+abbrev pub answer_wad : Option (List ℕ) → State → Did
+answer_wad None s = bad_name s
+answer_wad (Some name) s = by_resource (wad_text name) (wad_after s.wad name) Models name s
 
 abbrev pub bad_kind : State → Did
 bad_kind s = says s Goes (joined (codes "bad kind\n" ∷ []))
@@ -228,6 +260,24 @@ answer_info table name s = by_image info_text table name s
 
 abbrev pub answer_dump : Option Table → Option (List ℕ) → State → Did
 answer_dump table name s = by_image (λ kind. dump_text) table name s
+
+-- the image of the current wad, where it is there and is a wad
+abbrev pub wad_only : Kind × List ℕ → Option (List ℕ)
+wad_only shown = if is_wad shown.0 then Some shown.1 else None
+
+abbrev pub wad_image : State → Option (List ℕ)
+wad_image s = option_and_then wad_only (option_and_then (seen s.table s.memory Models) s.wad)
+
+abbrev pub no_wad_text : List ℕ
+no_wad_text = joined (codes "no wad\n" ∷ [])
+
+-- what is told of the lump of a name in the current wad
+abbrev pub pic_text : List ℕ → Option (List ℕ) → List ℕ
+pic_text name None = no_wad_text
+pic_text name (Some image) = lump_text name image
+
+abbrev pub answer_pic : (word : List ℕ) → State → Did
+answer_pic word s = says s Goes (pic_text (cleaned word) (wad_image s))
 
 -- a block of the zone of this size was refused
 abbrev pub full_text : ℕ → List ℕ
@@ -349,6 +399,8 @@ by_verb (Some verb.Sound) words s = answer_acquire Sounds (name_in 1 words) s
 by_verb (Some verb.Model) words s = answer_acquire Models (name_in 1 words) s
 by_verb (Some verb.Info) words s = answer_info (table_in 1 words) (name_in 2 words) s
 by_verb (Some verb.Dump) words s = answer_dump (table_in 1 words) (name_in 2 words) s
+by_verb (Some verb.Wad) words s = answer_wad (name_in 1 words) s
+by_verb (Some verb.Pic) words s = answer_pic (word_at 1 words) s
 
 -- a text without words does nothing
 abbrev pub by_words : List (List ℕ) → State → Did

@@ -1,6 +1,7 @@
 pub mod States
 pub mod Holding
 pub mod Verbs
+pub mod Pictures
 pub mod Commands
 pub mod Frames
 pub mod Telling

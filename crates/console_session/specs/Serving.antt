@@ -29,6 +29,7 @@ seen store folder console = record {
   level = console.level;
   cvars = console.cvars;
   newest = console.aliases;
+  wad = console.wad;
 }
 
 -- each folder's count of faults, and of calls

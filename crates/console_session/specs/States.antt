@@ -22,8 +22,9 @@ pub record PathSeen : Type 0 where
   pub mounts : List (Option Mount)
   pub told : List (Option (List File))
 
--- The memory; the path; the resources; the bytes of the command buffer; the host level, a mark of the low hunk; the cvars; and
--- the record of the newest alias. The values of the cvars, the aliases and the images of resources are read from the memory.
+-- The memory; the path; the resources; the bytes of the command buffer; the host level, a mark of the low hunk; the cvars; the
+-- record of the newest alias; and the name of the current wad, which is one of the models. The values of the cvars, the
+-- aliases and the images of resources are read from the memory.
 pub record State : Type 0 where
   pub memory : Memory
   pub path : PathSeen
@@ -32,6 +33,7 @@ pub record State : Type 0 where
   pub level : ℕ
   pub cvars : List Cvar
   pub newest : Option ℕ
+  pub wad : Option (List ℕ)
 
 -- a memory that was just created, with a zone of at least 4096 bytes and as many users of the cache as a session has
 pub record IsNew (m : Memory) : Type 0 where
@@ -45,8 +47,8 @@ abbrev pub cvars_in : Result (List Cvar) ℕ → List Cvar
 cvars_in (Ok cvars) = cvars
 cvars_in (Err asked) = []
 
--- At the start the cvars have their defaults, there is no alias and no resource, the buffer is empty, and the host level is
--- where the low hunk ends. Sounds are made for `speed` samples a second.
+-- At the start the cvars have their defaults, there is no alias, no resource and no current wad, the buffer is empty, and the
+-- host level is where the low hunk ends. Sounds are made for `speed` samples a second.
 abbrev pub started : Memory → PathSeen → (speed : ℕ) → State
 started m path speed = record {
   memory = (created m defaults).after;
@@ -56,6 +58,7 @@ started m path speed = record {
   level = low_used m;
   cvars = cvars_in (created m defaults).answer;
   newest = None;
+  wad = None;
 }
 
 -- what a command prints, whether it asked for a file, and whether it asked for memory

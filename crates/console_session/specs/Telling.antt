@@ -12,7 +12,6 @@ use Rattle.mem_model.specs.declared.answers.ZoneError.{ZoneError}
 use Rattle.mem_model.specs.declared.answers.ZoneError.TheVariants as zone
 use Rattle.cmd_buffer.specs.declared.aliases.AliasError.{AliasError}
 use Rattle.cmd_buffer.specs.declared.aliases.AliasError.TheVariants as alias
-use Rattle.info_text.specs.Lines.{resource_text}
 use Rattle.res_table.specs.declared.answers.AcquireError.{AcquireError}
 use Rattle.res_table.specs.declared.answers.AcquireError.TheVariants as acquire
 use Rattle.res_table.specs.declared.answers.Res.{Res}
@@ -74,6 +73,7 @@ refused_told name file acquire.OutOfMemory = Err fault.Memory
 refused_told name file error = Ok (refused_text name file error)
 
 -- how a resource is told that was acquired, or not
-abbrev pub acquired_told : (name file : List ℕ) → Result Res AcquireError → Result (List ℕ) Fault
-acquired_told name file (Ok res) = Ok (resource_text name res)
-acquired_told name file (Err error) = refused_told name file error
+abbrev pub acquired_told : (tells : Res → List ℕ) → (name file : List ℕ) → Result Res AcquireError
+    → Result (List ℕ) Fault
+acquired_told tells name file (Ok res) = Ok (tells res)
+acquired_told tells name file (Err error) = refused_told name file error

@@ -30,6 +30,8 @@ verbs =
     named (codes "model") verb.Model ∷
     named (codes "info") verb.Info ∷
     named (codes "dump") verb.Dump ∷
+    named (codes "wad") verb.Wad ∷
+    named (codes "pic") verb.Pic ∷
     []
 
 -- the first of these that a word names, in any case

@@ -11,6 +11,7 @@ mod frames;
 mod resources;
 mod values;
 
+use base_fields::GameName;
 use cmd_buffer::{Aliases, CmdBuffer};
 use cvar_table::Cvars;
 use mem_model::{Store, ZoneError};
@@ -30,6 +31,8 @@ pub struct Console<M: Store, F: Folder> {
     level: u32,
     cvars: Cvars,
     aliases: Aliases,
+    // The name of the current wad.
+    wad: Option<GameName>,
     // Whether the run has ended.
     pub ended: bool,
 }
@@ -57,6 +60,7 @@ impl<M: Store, F: Folder> Console<M, F> {
                 level,
                 cvars,
                 aliases: Aliases::create(),
+                wad: None,
                 ended: false,
             }),
             Err(ZoneError::Full { .. }) => unreachable!(),

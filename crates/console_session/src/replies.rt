@@ -1,5 +1,5 @@
 // The replies of commands. Each text is decided here once.
-ghost use Rattle.std.specs.Prelude.{◌∷◌, [], Ok, drop, false, codes};
+ghost use Rattle.std.specs.Prelude.{◌≤◌, ◌∷◌, [], IfOk, Ok, drop, false, codes, length};
 ghost use Rattle.search_paths.specs.Path.{rows_of};
 ghost use Rattle.reply_pieces.specs.Pieces.{text_of, joined, PutsText};
 ghost use Rattle.cmd_buffer.specs.Aliases.{HoldsAliases, alias_texts};
@@ -8,9 +8,11 @@ ghost use Rattle.info_text.specs.Dumps.{dump_text};
 ghost use Rattle.info_text.specs.Infos.{info_text};
 ghost use Rattle.info_text.specs.Lines.{bad_text, resource_text};
 ghost use Rattle.res_table.specs.Images.{HasFileName, IsImage, file_of};
+ghost use Rattle.wad2_lumps.specs.Pictures.{pixels_end};
+ghost use Rattle.console_session.specs.Pictures.{picture_told};
 ghost use Rattle.console_session.specs.Telling.{Puts, acquired_told, refused_told, load_told, block_told, cvar_told, alias_told};
 ghost use Rattle.console_session.specs.Commands.{missing_text, beyond_text, short_text, full_text, long_name_text};
-ghost use Rattle.console_session.specs.Commands.{absent_text, block_text, spaced};
+ghost use Rattle.console_session.specs.Commands.{absent_text, block_text, not_wad_text, no_wad_text, spaced};
 ghost use Rattle.console_session.specs.Commands.{exec_text, file_text, cvar_text, expansion_text, unknown_text};
 ghost use Rattle.console_session.specs.Commands.{alias_line, alias_lines, alias_list, mount_line, mount_lines};
 
@@ -19,12 +21,13 @@ use base_fields::GameName;
 use block_report::report;
 use cmd_buffer::{AliasError, Aliases, Words};
 use file_load::LoadError;
-use info_text::{dump, info, put_bad, put_resource};
+use info_text::{LumpError, dump, info, put_bad, put_lump_error, put_picture, put_resource};
 use mem_model::{Place, RoomError, Store, ZoneError};
 use outside_io::{Folder, Sink, SinkFailed};
 use reply_pieces::{Piece, put_all};
 use res_table::{AcquireError, Fault as Wrong, Kind, Res, Table};
 use search_paths::{MountRow, Paths};
+use wad2_lumps::{LumpName, Picture};
 
 // A path has 65536 folders at most, each with 32 packs at most.
 const MOST_MOUNTS: u32 = 33 * 65536;
@@ -292,7 +295,7 @@ fn put_table_full<O: Sink>(out: &mut O) -> Result<Next, Fault>
 }
 
 // Shows a resource.
-fn put_res<O: Sink>(out: &mut O, name: &GameName, res: &Res) -> Result<Next, Fault>
+pub fn put_res<O: Sink>(out: &mut O, name: &GameName, res: &Res) -> Result<Next, Fault>
     ensures { Puts O.Sink (Ok (resource_text name.now res.now)) Next.Goes out.old out.new result }
 {
     match put_resource(name, res, out) {
@@ -312,7 +315,7 @@ fn put_fault<O: Sink>(out: &mut O, name: &GameName, fault: Wrong) -> Result<Next
 }
 
 // Says why a resource was not acquired.
-fn put_refused<O: Sink>(
+pub fn put_refused<O: Sink>(
     out: &mut O,
     table: Table,
     name: &GameName,
@@ -342,11 +345,49 @@ pub fn put_acquired<O: Sink>(
     answer: Result<Res, AcquireError>,
 ) -> Result<Next, Fault>
     requires { HasFileName table name.now }
-    ensures { Puts O.Sink (acquired_told name.now (file_of table name.now) answer) Next.Goes out.old out.new result }
+    ensures { Puts O.Sink (acquired_told (resource_text name.now) name.now (file_of table name.now) answer) Next.Goes
+        out.old out.new result }
 {
     match answer {
         Ok(res) => put_res(out, name, &res),
         Err(error) => put_refused(out, table, name, error),
+    }
+}
+
+// Says of a model that it is no wad.
+pub fn put_not_wad<O: Sink>(out: &mut O, name: &GameName) -> Result<Next, Fault>
+    ensures { Puts O.Sink (Ok (not_wad_text name.now)) Next.Goes out.old out.new result }
+{
+    reply(
+        out,
+        &[Piece::Text(name.bytes()), Piece::Text(b" is no wad\n")],
+    )
+}
+
+// Says that there is no current wad.
+pub fn put_no_wad<O: Sink>(out: &mut O) -> Result<Next, Fault>
+    ensures { Puts O.Sink (Ok (no_wad_text)) Next.Goes out.old out.new result }
+{
+    reply(out, &[Piece::Text(b"no wad\n")])
+}
+
+// Shows a picture, or says why there is none to show.
+pub fn put_pic<O: Sink>(
+    out: &mut O,
+    name: &LumpName,
+    image: &[u8],
+    picture: Result<Picture, LumpError>,
+) -> Result<Next, Fault>
+    requires { IfOk picture (λ p. pixels_end p ≤ length image.now) }
+    ensures { Puts O.Sink (Ok (picture_told name.now image.now picture)) Next.Goes out.old out.new result }
+{
+    let put = match picture {
+        Ok(picture) => put_picture(name, &picture, image, out),
+        Err(error) => put_lump_error(name, error, out),
+    };
+    match put {
+        Ok(()) => Ok(Next::Goes),
+        Err(_) => Err(Fault::Write),
     }
 }
 

@@ -22,10 +22,12 @@ pub enum Verb {
     Model,
     Info,
     Dump,
+    Wad,
+    Pic,
 }
 
 // Each command with its name.
-static VERBS: [(&[u8], Verb); 16] = [
+static VERBS: [(&[u8], Verb); 18] = [
     (b"file", Verb::File),
     (b"echo", Verb::Echo),
     (b"exec", Verb::Exec),
@@ -42,6 +44,8 @@ static VERBS: [(&[u8], Verb); 16] = [
     (b"model", Verb::Model),
     (b"info", Verb::Info),
     (b"dump", Verb::Dump),
+    (b"wad", Verb::Wad),
+    (b"pic", Verb::Pic),
 ];
 
 // Whether the two are the same but for the case of their letters.

@@ -50,6 +50,8 @@ impl<M: Store, F: Folder> Console<M, F> {
             Some(Verb::Model) => self.acquire(Table::Models, name_in(words, 1), out),
             Some(Verb::Info) => self.info(table_in(words, 1), name_in(words, 2), out),
             Some(Verb::Dump) => self.dump(table_in(words, 1), name_in(words, 2), out),
+            Some(Verb::Wad) => self.take_wad(name_in(words, 1), out),
+            Some(Verb::Pic) => self.pic(words.word(1), out),
         }
     }
 

@@ -1,15 +1,25 @@
 // The commands on resources.
-ghost use Rattle.console_session.specs.Commands.{answer_acquire, answer_dump, answer_info};
+ghost use Rattle.std.specs.Prelude.{◌≡◌, ◌≤◌, length, IfOk, IfSome, MatchOption, None, Some};
+ghost use Rattle.res_table.specs.Images.{IsImage};
+ghost use Rattle.wad2_lumps.specs.Lumps.{lump_in};
+ghost use Rattle.wad2_lumps.specs.Pictures.{pixels_end};
+ghost use Rattle.console_session.specs.Commands.{answer_acquire, answer_dump, answer_info, answer_pic, answer_wad, wad_image};
 ghost use Rattle.console_session.specs.Holding.{Holds};
+ghost use Rattle.console_session.specs.Pictures.{picture_of};
 ghost use Rattle.console_session.specs.Serving.{seen, Does};
 
 use crate::console::Console;
 use crate::ends::{Fault, Next};
-use crate::replies::{put_absent, put_acquired, put_bad_kind, put_bad_name, put_dump, put_info};
+use crate::replies::{
+    put_absent, put_acquired, put_bad_kind, put_bad_name, put_dump, put_info, put_no_wad,
+    put_not_wad, put_pic, put_refused, put_res,
+};
 use base_fields::GameName;
+use info_text::LumpError;
 use mem_model::Store;
 use outside_io::{Folder, Sink};
-use res_table::Table;
+use res_table::{Kind, Table};
+use wad2_lumps::{Lump, LumpName, PicFault, Picture, cleaned, lump, picture};
 
 impl<M: Store, F: Folder> Console<M, F> {
     // Acquires the resource of a name.
@@ -76,5 +86,76 @@ impl<M: Store, F: Folder> Console<M, F> {
             Some((_, image)) => put_dump(out, &name, image),
             None => put_absent(out, &name),
         }
+    }
+    // Acquires the model of a name, which is the current wad then, where it is a wad.
+    pub(super) fn take_wad<O: Sink>(
+        &mut self,
+        name: Option<GameName>,
+        out: &mut O,
+    ) -> Result<Next, Fault>
+        requires holds { Holds (seen M.Store F.Folder self.old) }
+        ensures { Does M.Store F.Folder O.Sink (answer_wad name) self.old self.new out.old out.new result }
+    {
+        let Some(name) = name else {
+            return put_bad_name(out);
+        };
+        let answer = self
+            .table
+            .acquire(&mut self.store, &mut self.paths, Table::Models, &name);
+        let res = match answer {
+            Ok(res) => res,
+            Err(error) => return put_refused(out, Table::Models, &name, error),
+        };
+        match res.kind {
+            Kind::Wad => {
+                self.wad = Some(name.copied());
+                put_res(out, &name, &res)
+            }
+            _ => put_not_wad(out, &name),
+        }
+    }
+
+    // The image of the current wad, where it is there.
+    fn wad_image(&self) -> Option<&[u8]>
+        requires holds { Holds (seen M.Store F.Folder self.now) }
+        ensures seen { MatchOption result (wad_image (seen M.Store F.Folder self.now) ≡ None)
+            (λ image. wad_image (seen M.Store F.Folder self.now) ≡ Some image.now) }
+        ensures image { IfSome result (λ image. IsImage Kind.Wad image.now) }
+    {
+        let name = self.wad.as_ref()?;
+        match self.table.look(&self.store, Table::Models, name)? {
+            (Kind::Wad, image) => Some(image),
+            _ => None,
+        }
+    }
+
+    // Shows a picture of the current wad.
+    pub(super) fn pic<O: Sink>(&mut self, word: &[u8], out: &mut O) -> Result<Next, Fault>
+        requires holds { Holds (seen M.Store F.Folder self.old) }
+        ensures { Does M.Store F.Folder O.Sink (answer_pic word.now) self.old self.new out.old out.new result }
+    {
+        let Some(image) = self.wad_image() else {
+            return put_no_wad(out);
+        };
+        let name = cleaned(word);
+        put_pic(out, &name, image, picture_of(image, &name))
+    }
+}
+
+// The picture of a lump, or why there is none to show.
+#[tactic(auto, using(crate::proofs::Picturing::wad_laws))]
+fn picture_of(image: &[u8], name: &LumpName) -> Result<Picture, LumpError>
+    requires { IsImage Kind.Wad image.now }
+    ensures value { result ≡ picture_of image.now (lump_in image.now name.now) }
+    ensures inside { IfOk result (λ p. pixels_end p ≤ length image.now) }
+{
+    match lump(image, name.bytes()) {
+        Lump::Found { offset, kind, .. } => match picture(image, offset, kind) {
+            Ok(picture) => Ok(picture),
+            Err(PicFault::NotPicture) => Err(LumpError::NotPicture),
+            Err(PicFault::Outside) => Err(LumpError::Outside),
+        },
+        Lump::Absent => Err(LumpError::Absent),
+        Lump::Compressed => Err(LumpError::Compressed),
     }
 }
