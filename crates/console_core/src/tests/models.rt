@@ -1,4 +1,4 @@
-// Models: alias models and sprites, loaded, shown and refused.
+// Models: alias models, sprites and wads, loaded, shown and refused.
 use super::{check_end, run_on, sink};
 use crate::Status;
 use outside_io::{Folder, MemFile, MemFolder};
@@ -21,6 +21,13 @@ enum Content {
 const SPRITE: Content = Content::Bytes(
     b"IDSP\x01\0\0\0\x02\0\0\0\0\0\0\0\x03\0\0\0\x02\0\0\0\x01\0\0\0\0\0\0\0\0\0\0\0\
       \0\0\0\0\0\0\0\0\0\0\0\0\x03\0\0\0\x02\0\0\0\x01\x02\x03\x04\x05\xff",
+);
+
+// A picture of two pixels with the name PIC, and four bytes with the name SQUASHED, which are compressed.
+const WAD: Content = Content::Bytes(
+    b"WAD2\x02\0\0\0\x1a\0\0\0\x02\0\0\0\x01\0\0\0\x0a\x0babcd\
+      \x0c\0\0\0\x0a\0\0\0\x0a\0\0\0\x42\0\0\0PIC\0\0\0\0\0\0\0\0\0\0\0\0\0\
+      \x16\0\0\0\x04\0\0\0\x04\0\0\0\x42\x01\0\0SQUASHED\0\0\0\0\0\0\0\0",
 );
 
 // Two samples.
@@ -77,7 +84,8 @@ fn folder(rt: &impl Abort, alloc: Global, fails: u64) -> Result<Box<dyn Folder>,
         ("p.spr", SPRITE),
         ("s", SPRITE),
         ("sound/s", SOUND),
-        ("w.wad", Content::Bytes(b"WAD2....")),
+        ("w.wad", WAD),
+        ("v.wad", Content::Bytes(b"WAD2....")),
         ("x.bsp", Content::Bytes(b"\x1d\0\0\0....")),
         ("two", Content::Bytes(b"ID")),
         ("empty", Content::Bytes(b"")),
@@ -124,14 +132,27 @@ fn models_are_acquired(rt: HostRuntime) -> Result<(), Fail> {
              02000000480000000102030405ff\n",
         ),
         (
-            "model w.wad;model x.bsp;model two;model empty",
-            "bad wad w.wad: not built\nbad brush x.bsp: not built\n\
+            "model v.wad;model x.bsp;model two;model empty",
+            "bad wad v.wad: not wad\nbad brush x.bsp: not built\n\
              bad brush two: not built\nbad brush empty: not built\n",
         ),
         (
             "model;model ../x;model none\ninfo model none;info Model p.spr;info;dump model ../x;dump model none",
             "bad name\nbad name\nnot found: none\n\
              none is absent\nbad kind\nbad kind\nbad name\nnone is absent\n",
+        ),
+        (
+            "pic pic;wad w.wad;pic pic;pic squashed;pic none\ninfo model w.wad",
+            "no wad\nwad w.wad 90 at 49184 loaded\npic pic 2 1\n0a0b\n\
+             compressed lump squashed\nno lump none\nwad w.wad lumps 2\n\
+             lump 0 PIC type 66 size 10 compression 0\nlump 1 SQUASHED type 66 size 4 compression 1\n",
+        ),
+        // Another model is loaded all the same, and a refused one changes nothing.
+        (
+            "wad p.spr;pic pic;wad w.wad\nwad p.spr;wad v.wad;wad none;wad ../x;PIC Pic;pic;model w.wad",
+            "p.spr is no wad\nno wad\nwad w.wad 90 at 49280 loaded\n\
+             p.spr is no wad\nbad wad v.wad: not wad\nnot found: none\nbad name\npic pic 2 1\n0a0b\n\
+             no lump \nwad w.wad 90 at 49280 present\n",
         ),
         // A name of both tables has a resource of each. A flush leaves the low hunk.
         (
