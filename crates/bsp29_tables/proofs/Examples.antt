@@ -8,7 +8,7 @@ use Rattle.bsp29_tables.specs.Lumps.{lump_of, rows_in, lump_check}
 use Rattle.bsp29_tables.specs.Textures.{texture_count, texture_offsets, pixels_at, all_pixels}
 use Rattle.bsp29_tables.specs.Textures.{table_check, texture_check, textures_check, animation_check, animations_check}
 use Rattle.bsp29_tables.specs.Rows.{counts_of}
-use Rattle.bsp29_tables.specs.Sizes.{image_size}
+use Rattle.bsp29_tables.specs.Sizes.{section_size, image_size}
 use Rattle.bsp29_tables.specs.Order.{check_of}
 
 -- a version, where the planes begin and how many bytes they have, how many bytes the models have, and the model
@@ -24,11 +24,11 @@ zeros = replicate 64 0
 
 least : check_of (file 29 0 0 64 zeros) ≡ fine
 unfolding check_of each_from u32_in lump_of rows_in lump_check texture_count texture_offsets table_check counts_of
-    image_size
+    section_size image_size
 least = refl
 
 least_size : image_size (file 29 0 0 64 zeros) ≡ 196
-unfolding u32_in lump_of rows_in texture_count texture_offsets image_size
+unfolding u32_in lump_of rows_in texture_count texture_offsets section_size image_size
 least_size = refl
 
 empty : check_of [] ≡ Err Short

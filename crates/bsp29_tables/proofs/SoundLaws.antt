@@ -195,6 +195,18 @@ sound_from_fine bytes e =
       small = grind (arith, nat_tests, (all_false (size_tests bytes) rows.1).0);
     }
 
+-- what the readers of the texture lump ask
+pub textures_from_fine : (bytes : List ℕ) → check_of bytes ≡ fine
+    → (table_check (lump_of bytes Textures) ≡ fine) × (textures_check (lump_of bytes Textures) ≡ fine)
+unfolding check_of
+textures_from_fine bytes e =
+    let header = both_fine (header_check bytes) _ e in
+    let lumps = both_fine (lumps_check bytes) _ header.1 in
+    let models = both_fine (models_check bytes) _ lumps.1 in
+    let table = both_fine (table_check (lump_of bytes Textures)) _ models.1 in
+    let each = both_fine (textures_check (lump_of bytes Textures)) _ table.1 in
+    (table.0, each.0)
+
 then_fine : (a b : Checked) → a ≡ fine → b ≡ fine → (a ⨾ b) ≡ fine
 then_fine a b first second = rw (first, second) refl
 

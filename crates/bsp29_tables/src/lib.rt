@@ -27,9 +27,9 @@
 //! - models, of 64 bytes each: at 52 how many leafs can be seen, which counts in the first model, and at 56 a first
 //!   face and a count of faces.
 //!
-//! The image of a brush model is only measured here. It has 132 bytes and then the lumps in the same order, where
-//! planes and faces have 24 bytes each, nodes 28 and leafs 32, and textures 68 each, with the pixels of all of them
-//! behind; and at its end a clipnode of 8 bytes for each node.
+//! The image of a brush model, which `bsp29_build` makes, is only measured here. It has 132 bytes and then the lumps in
+//! the same order, where planes and faces have 24 bytes each, nodes 28 and leafs 32, and textures 68 each, with the
+//! pixels of all of them behind; and at its end a clipnode of 8 bytes for each node.
 #![tactic(auto)]
 
 ghost use Rattle.std.specs.Prelude.{◌≡◌};
@@ -44,9 +44,12 @@ mod textures;
 
 pub use fault::BspFault;
 pub use laws::{first_faults, sound_files};
-use lumps::{Lump, check_header, check_lumps, check_models, lump_bytes};
+use lumps::{check_header, check_lumps, check_models};
+pub use lumps::{Lump, count, lump_bytes};
 use rows::check_rows;
 use size::check_size;
+pub use size::{image_size, section_size};
+pub use textures::{MISSING, pixels_at, texture_count, texture_offset};
 use textures::{check_animations, check_table, check_textures};
 
 /// The first fault of a brush model's file, in the order of [`BspFault`], if it has one.

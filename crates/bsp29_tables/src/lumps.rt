@@ -8,7 +8,7 @@ use base_fields::u32_at;
 
 /// The lumps, in the order of the header.
 #[derive(Clone, Copy, Debug)]
-pub(crate) enum Lump {
+pub enum Lump {
     Entities,
     Planes,
     Textures,
@@ -26,7 +26,7 @@ pub(crate) enum Lump {
     Models,
 }
 
-const LUMPS: [Lump; 15] = [
+pub(crate) const LUMPS: [Lump; 15] = [
     Lump::Entities,
     Lump::Planes,
     Lump::Textures,
@@ -52,16 +52,16 @@ const HEADER: usize = 124;
 const MOST: u32 = 32768;
 
 impl Lump {
-    // Its number in the header.
-    pub(crate) fn number(self) -> u32
+    /// Its number in the header.
+    pub fn number(self) -> u32
         ensures number { result ≡ number_of self }
         ensures below { result < 15 }
     {
         self as u32
     }
 
-    // The bytes of one of its rows.
-    pub(crate) fn row_size(self) -> u32
+    /// The bytes of one of its rows.
+    pub fn row_size(self) -> u32
         ensures size { result ≡ row_size self }
         ensures positive { 0 < result }
     {
@@ -96,8 +96,8 @@ fn length_of(src: &[u8], lump: Lump) -> u32
     u32_at(src, 8 * lump.number() as usize + 8)
 }
 
-// The bytes of a lump, as far as the file has them.
-pub(crate) fn lump_bytes(src: &[u8], lump: Lump) -> &[u8]
+/// The bytes of a lump, as far as the file has them.
+pub fn lump_bytes(src: &[u8], lump: Lump) -> &[u8]
     requires { 124 ≤ length src.now }
     ensures bytes { result.now ≡ lump_of src.now lump }
     ensures short { length result.now < 2 ^ 32 }
@@ -107,8 +107,8 @@ pub(crate) fn lump_bytes(src: &[u8], lump: Lump) -> &[u8]
     &src[start..start + length]
 }
 
-// How many rows a lump has.
-pub(crate) fn count(src: &[u8], lump: Lump) -> u32
+/// How many rows a lump has.
+pub fn count(src: &[u8], lump: Lump) -> u32
     requires { 124 ≤ length src.now }
     ensures { result ≡ count_of src.now lump }
 {

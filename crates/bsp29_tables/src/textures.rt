@@ -9,8 +9,8 @@ ghost use Rattle.bsp29_tables.specs.Textures.{pixel_count, pixels_at, all_pixels
 use crate::fault::BspFault;
 use base_fields::u32_at;
 
-// The offset of a texture that is missing.
-const MISSING: u32 = 0xffff_ffff;
+/// The offset of a texture that is missing.
+pub const MISSING: u32 = 0xffff_ffff;
 
 // The most textures, and the greatest width and height.
 const MOST: u32 = 4096;
@@ -35,9 +35,9 @@ pub(crate) fn check_table(lump: &[u8]) -> Result<(), BspFault>
     Ok(())
 }
 
-// How many textures there are.
+/// How many textures there are.
 #[tactic(auto, unfolding(crate::specs::Textures::texture_count))]
-pub(crate) fn texture_count(lump: &[u8]) -> u32
+pub fn texture_count(lump: &[u8]) -> u32
     requires { table_check lump.now ≡ fine }
     ensures count { result ≡ texture_count lump.now }
     ensures few { result ≤ 4096 }
@@ -57,8 +57,8 @@ pub(crate) fn told_count(lump: &[u8]) -> Option<u32>
     }
 }
 
-// Where a texture begins.
-fn offset_of(lump: &[u8], texture: u32) -> u32
+/// Where in the lump a texture begins: 0xFFFFFFFF where it is missing.
+pub fn texture_offset(lump: &[u8], texture: u32) -> u32
     requires table { table_check lump.now ≡ fine }
     requires below { texture < texture_count lump.now }
     ensures { result ≡ slice_index (texture_offsets lump.now) texture }
@@ -110,7 +110,7 @@ pub(crate) fn check_textures(lump: &[u8]) -> Result<(), BspFault>
     ensures { result ≡ textures_check lump.now }
 {
     for texture in 0..texture_count(lump) {
-        check_texture(lump, texture, offset_of(lump, texture))?;
+        check_texture(lump, texture, texture_offset(lump, texture))?;
     }
     Ok(())
 }
@@ -139,14 +139,14 @@ pub(crate) fn check_animations(lump: &[u8]) -> Result<(), BspFault>
     ensures { result ≡ animations_check lump.now }
 {
     for texture in 0..texture_count(lump) {
-        check_animation(lump, texture, offset_of(lump, texture))?;
+        check_animation(lump, texture, texture_offset(lump, texture))?;
     }
     Ok(())
 }
 
-// The pixels of a texture that lies in the lump.
+/// How many bytes the pixels of a texture have that begins there: none where it is missing.
 #[tactic(auto, unfolding(crate::specs::Textures::pixels_at))]
-fn pixels_at(lump: &[u8], at: u32) -> u32
+pub fn pixels_at(lump: &[u8], at: u32) -> u32
     requires { HasTexture lump.now at }
     ensures { result ≡ pixels_at lump.now at }
 {
@@ -167,7 +167,7 @@ pub(crate) fn all_pixels(lump: &[u8]) -> u64
 {
     let mut total = 0;
     for texture in 0..texture_count(lump) {
-        total += u64::from(pixels_at(lump, offset_of(lump, texture)));
+        total += u64::from(pixels_at(lump, texture_offset(lump, texture)));
     }
     total
 }

@@ -9,7 +9,7 @@ use Rattle.bsp29_tables.proofs.textures.all_pixels.Goals as goal
 
 pub pixels_at-requires : goal.pixels_at-requires
 pixels_at-requires c =
-    rw c.offset_of.ensures (texture_inside c.args.lump.now c.loop-texture.texture c.requires.textures (omega arith))
+    rw c.texture_offset.ensures (texture_inside c.args.lump.now c.loop-texture.texture c.requires.textures (omega arith))
 
 pub loop-texture-preserved : goal.loop-texture-preserved
 loop-texture-preserved c =
@@ -18,7 +18,7 @@ loop-texture-preserved c =
     record {
       sum = rw (
         sum_by_more (pixels_at lump) (texture_offsets lump) c.loop-texture.texture 0 below,
-        ← c.offset_of.ensures,
+        ← c.texture_offset.ensures,
         ← c.pixels_at.ensures,
         ← c.loop-texture.invariant.sum,
         c.from-total.ensures,

@@ -12,14 +12,14 @@ returns-in_err-check_animation c =
     let below : c.loop-texture.texture < length offsets = rw length-texture_offsets (omega arith) in
     rw (p.1, p.2)
     (sym (failed_here 0 _ c.loop-texture.invariant below
-    (rw (← c.offset_of.ensures) (sym c.check_animation.ensures ∙ c.in_err-check_animation.was))))
+    (rw (← c.texture_offset.ensures) (sym c.check_animation.ensures ∙ c.in_err-check_animation.was))))
 
 pub loop-texture-preserved : goal.loop-texture-preserved
 loop-texture-preserved c =
     let offsets = texture_offsets c.args.lump.now in
     let below : c.loop-texture.texture < length offsets = rw length-texture_offsets (omega arith) in
     passed_more 0 c.loop-texture.invariant below
-    (rw (← c.offset_of.ensures) (sym c.check_animation.ensures ∙ c.in_ok-check_animation.was))
+    (rw (← c.texture_offset.ensures) (sym c.check_animation.ensures ∙ c.in_ok-check_animation.was))
 
 pub returns : goal.returns
 returns c = sym (passed_all c.loop-texture.invariant (rw length-texture_offsets (omega arith)))

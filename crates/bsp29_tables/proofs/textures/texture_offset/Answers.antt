@@ -1,7 +1,7 @@
 use Rattle.std.proofs.Common.{sym, ◌∙◌, arith}
 use Rattle.bsp29_tables.proofs.Cutting.{get_or-texture_offsets}
 use Rattle.bsp29_tables.proofs.TextureLaws.{has_offset}
-use Rattle.bsp29_tables.proofs.textures.offset_of.Goals as goal
+use Rattle.bsp29_tables.proofs.textures.texture_offset.Goals as goal
 
 pub u32_at-requires : goal.u32_at-requires
 u32_at-requires c = omega (arith, has_offset c.args.lump.now c.args.texture c.requires.table c.requires.below)
