@@ -6,7 +6,7 @@ use Rattle.std.proofs.lemmas.List.{length-replicate}
 use Rattle.std.proofs.lemmas.List.Elements.{All-take}
 use Rattle.std.proofs.lemmas.Bool.{cond_both, ltb-false, eqb-false, eq-eqb, ne_eqb}
 use Rattle.std.proofs.lemmas.Bool.Decides.{eqb_tells}
-use Rattle.mem_model.specs.Event.{Event, Shortage, FreeRefusal, CacheRefusal.Occupied, CacheRefusal.BadSize, CacheRefusal.NoRoom}
+use Rattle.mem_model.specs.Event.{Event, Shortage, FreeRefusal, CacheRefusal, CacheRefusal.Occupied, CacheRefusal.BadSize, CacheRefusal.NoRoom}
 use Rattle.mem_model.specs.Blocks.{HunkBlock, CacheBlock}
 use Rattle.mem_model.specs.Memory.{Memory, Cache, size_of, low_used, high_used, high_start, room}
 use Rattle.mem_model.specs.Places.{hunk_need, cache_need, round_up}
@@ -14,7 +14,7 @@ use Rattle.mem_model.specs.Hunk.{hunk_block, with_low, with_high, without_temp, 
 use Rattle.mem_model.specs.Zone.{zone_bytes, used_bytes_from}
 use Rattle.mem_model.specs.Cache.{pushed_up, pushed_down, peek_bytes, without, touched, block_of, with_new, new_block, without_user}
 use Rattle.mem_model.specs.Answer.{Answered, Gives, with_event}
-use Rattle.mem_model.specs.Operations.{low_alloc, low_free, low_cut, high_taken, high_alloc, high_free, high_cut, high_mark, temp_alloc, z_alloc, z_free, cache_alloc, check, cache_free, flush, build_low, build_cache, copy_low_to_cache, shortage}
+use Rattle.mem_model.specs.Operations.{low_alloc, low_free, low_cut, high_taken, high_alloc, high_free, high_cut, high_mark, temp_alloc, z_alloc, z_free, cache_alloc, check, cache_free, flush, build_low, build_cache, copied_if, copy_low_to_cache, move_low_to_cache, shortage}
 use Rattle.mem_model.specs.Images.{HasBytes, front_of}
 use Rattle.mem_model.specs.Laid.{Laid, IsText, IsHunkBlock, IsCache, IsCacheBlock, count_in, users_of}
 use Rattle.mem_model.specs.Keeps.{held, unplaced, KeepsUsers, beside_low, beside_high, beside_zone, beside_cache}
@@ -220,7 +220,7 @@ IsCacheBlock-new_block users size user place name known some text = record {
   bytes = length-replicate (cache_need size - 40) 0;
 }
 
-unfound : (o : Option CacheBlock) → is_some o ≡ false → o ≡ None
+pub unfound : (o : Option CacheBlock) → is_some o ≡ false → o ≡ None
 unfound None h = refl
 unfound (Some b) h = absurd (cc)
 
@@ -573,6 +573,22 @@ users-copy_low_to_cache m place user size = ap (λ (x : Memory). x.users) (besid
 pub after_gives : {A : Type 0} (P : Memory → Type 0) (given : Answered A) (frugal : Bool) (left new : Memory) (reply : Option A) → Gives given frugal left reply new → P given.after → P left → P new
 after_gives P given frugal left new None g p q = subst P (sym g.after) q
 after_gives P given frugal left new (Some reply) g p q = subst P (sym g.after) p
+
+-- A moving is an allocation, a copying where the block was given, and a freeing.
+copied_either : (P : Memory → Type 0) (m : Memory) (place user size : ℕ) (reply : Result (Unit {0}) CacheRefusal) → P m → P (copy_low_to_cache m place user size).after → P (copied_if m place user size reply)
+copied_either P m place user size (Ok done) p q = q
+copied_either P m place user size (Err refusal) p q = p
+
+pub moved_by : (P : Memory → Type 0) (m : Memory) (mark user size : ℕ) (name : List ℕ) → P (cache_alloc m user size name).after → ((n : Memory) → P n → P (copy_low_to_cache n (mark + 16) user size).after) → ((n : Memory) → P n → P (low_free n mark).after) →
+    P (move_low_to_cache m mark user size name).after
+unfolding move_low_to_cache
+moved_by P m mark user size name given copied freed =
+    let n : Memory = (cache_alloc m user size name).after in
+    freed (copied_if n (mark + 16) user size (cache_alloc m user size name).answer) (copied_either P n (mark + 16) user size (cache_alloc m user size name).answer given (copied n given))
+
+pub Laid-move_low_to_cache : (m : Memory) (mark user size : ℕ) (name : List ℕ) → Laid m → user < m.users → IsText name → Laid (move_low_to_cache m mark user size name).after
+Laid-move_low_to_cache m mark user size name laid known text =
+    moved_by Laid m mark user size name (Laid-cache_alloc m user size name laid known text) (λ n p. Laid-copy_low_to_cache n (mark + 16) user size p) (λ n p. Laid-low_free n mark p)
 
 -- The bytes that a user's block shows are those that it holds.
 pub peek_bytes-held : (c : Cache) (user : ℕ) (b : CacheBlock) → held c user ≡ Some b → peek_bytes c user ≡ Some b.bytes

@@ -158,7 +158,7 @@ keeps-moved c b place user x there rest h =
       | inr off ↦ rest.holds user x (sym (held-with_other (without c b.user) (record b { place = place }) user off.1) ∙ h)
     ]
 
-block_at : (users place : ℕ) (b : CacheBlock) → IsCacheBlock users b → IsCacheBlock users (record b { place = place })
+pub block_at : (users place : ℕ) (b : CacheBlock) → IsCacheBlock users b → IsCacheBlock users (record b { place = place })
 block_at users place b is = record { least = is.least; whole = is.whole; user = is.user; short = is.short; text = is.text; bytes = is.bytes }
 
 found_block : (P : CacheBlock → Type 0) (user : ℕ) (blocks : List CacheBlock) (b : CacheBlock) → AllByRecursion P blocks → find (λ x. nat_eq x.user user) blocks ≡ Some b → P b

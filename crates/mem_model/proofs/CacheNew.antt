@@ -6,7 +6,7 @@ use Rattle.std.proofs.lemmas.Bool.{leb-true, le-leb, and_parts, cases_Bool}
 use Rattle.mem_model.specs.Blocks.{CacheBlock}
 use Rattle.mem_model.specs.Memory.{Cache}
 use Rattle.mem_model.specs.Places.{end_of, is_clear, least, lesser, fit}
-use Rattle.mem_model.specs.Cache.{kept, with_block, with_new, evictions, new_block, placed, made_room}
+use Rattle.mem_model.specs.Cache.{kept, with_block, with_fitted, with_new, evictions, new_block, placed, made_room}
 use Rattle.mem_model.specs.Laid.{AreBetween, IsCache, IsCacheBlock, count_in, users_of}
 use Rattle.mem_model.specs.Turns.{IsHop}
 use Rattle.mem_model.specs.Keeps.{held}
@@ -64,11 +64,11 @@ pub record IsPlaced (c : Cache) (bottom top size user : ℕ) (name : List ℕ) (
   pub hop : IsHop (kept c n).blocks bottom top place size
   pub is : with_new c bottom top size user name ≡ with_block (kept c n) (new_block place size user name)
 
-pub with_new-placed : (c : Cache) (bottom top size user n place : ℕ) (name : List ℕ) → evictions c bottom top size ≡ Some n → fit (kept c n).blocks bottom top size ≡ Some place →
-    with_new c bottom top size user name ≡ with_block (kept c n) (new_block place size user name)
-unfolding with_new
-with_new-placed c bottom top size user n place name some fits =
-    ap (λ o. placed (made_room c o) size user name (fit (made_room c o).blocks bottom top size)) some ∙ ap (λ o. placed (kept c n) size user name o) fits
+pub with_fitted-placed : (c : Cache) (b : CacheBlock) (bottom top n place : ℕ) → evictions c bottom top b.size ≡ Some n → fit (kept c n).blocks bottom top b.size ≡ Some place →
+    with_fitted c bottom top b ≡ with_block (kept c n) (record b { place = place })
+unfolding with_fitted
+with_fitted-placed c b bottom top n place some fits =
+    ap (λ o. placed (made_room c o) b (fit (made_room c o).blocks bottom top b.size)) some ∙ ap (λ o. placed (kept c n) b o) fits
 
 pub evictions_are : (c : Cache) (bottom top size users : ℕ) → IsCache c users bottom top → bottom + size ≤ top →
     (n : ℕ) × (place : ℕ) × (evictions c bottom top size ≡ Some n) × (fit (kept c n).blocks bottom top size ≡ Some place)
@@ -88,7 +88,7 @@ with_new_is c bottom top size user users name is fits =
       found.1,
       record {
         hop = fit_is (kept c found.0).blocks bottom top size found.1 (later-kept c users bottom top found.0 is).cache.between found.3;
-        is = with_new-placed c bottom top size user found.0 found.1 name found.2 found.3;
+        is = with_fitted-placed c (new_block 0 size user name) bottom top found.0 found.1 found.2 found.3;
       },
     )
 

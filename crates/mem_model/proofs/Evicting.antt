@@ -8,14 +8,14 @@ use Rattle.std.proofs.lemmas.List.{drop_all, take_all}
 use Rattle.mem_model.specs.Blocks.{CacheBlock}
 use Rattle.mem_model.specs.Memory.{Cache, cache_of}
 use Rattle.mem_model.specs.Places.{end_of, least, lesser, fit}
-use Rattle.mem_model.specs.Cache.{kept, with_block, with_new, evictions, new_block, without, without_user, without_block}
+use Rattle.mem_model.specs.Cache.{kept, with_block, with_fitted, evictions, without, without_user, without_block}
 use Rattle.mem_model.specs.Gaps.{gap_from, start_of, HasSize, size_of_cache}
 use Rattle.mem_model.specs.Turns.{edge, IsAround, IsEvicted}
 use Rattle.mem_model.specs.Tables.{IsOwn}
 use Rattle.mem_model.specs.Laid.{AreBetween, IsCache, count_in, users_of}
 use Rattle.mem_model.proofs.CacheBlocks.{between-spans, find-none, find-some, count-append}
 use Rattle.mem_model.proofs.CacheMoves.{has_sizes, later-without}
-use Rattle.mem_model.proofs.CacheNew.{with_new-placed, evictions_are, none-filtered}
+use Rattle.mem_model.proofs.CacheNew.{with_fitted-placed, evictions_are, none-filtered}
 use Rattle.mem_model.proofs.Gaps.{fit_gap}
 use Rattle.mem_model.proofs.CacheEdits.{at_position}
 use Rattle.mem_model.proofs.Jumps.{without_block-none, without_user-none}
@@ -48,12 +48,12 @@ evictions_none c bottom top size place h =
     rw here (ap Some (lesser_zero (least (filter (fits_after c bottom top size) (range_with_len 1 (length c.recency))))))
 
 -- Where a gap is large enough, nobody leaves.
-pub with_new-fits : (c : Cache) (bottom top size user place : ℕ) (name : List ℕ) → AreBetween bottom top c.blocks → AllByRecursion HasSize c.blocks → gap_from bottom size top c.blocks ≡ Some place →
-    with_new c bottom top size user name ≡ with_block c (new_block place size user name)
-with_new-fits c bottom top size user place name a s h =
-    let fits : fit c.blocks bottom top size ≡ Some place = fit_gap c.blocks bottom top size a s ∙ h in
-    with_new-placed c bottom top size user 0 place name (evictions_none c bottom top size place fits) (ap (λ (d : Cache). fit d.blocks bottom top size) (kept_all c) ∙ fits)
-    ∙ ap (λ d. with_block d (new_block place size user name)) (kept_all c)
+pub with_fitted-fits : (c : Cache) (b : CacheBlock) (bottom top place : ℕ) → AreBetween bottom top c.blocks → AllByRecursion HasSize c.blocks → gap_from bottom b.size top c.blocks ≡ Some place →
+    with_fitted c bottom top b ≡ with_block c (record b { place = place })
+with_fitted-fits c b bottom top place a s h =
+    let fits : fit c.blocks bottom top b.size ≡ Some place = fit_gap c.blocks bottom top b.size a s ∙ h in
+    with_fitted-placed c b bottom top 0 place (evictions_none c bottom top b.size place fits) (ap (λ (d : Cache). fit d.blocks bottom top b.size) (kept_all c) ∙ fits)
+    ∙ ap (λ d. with_block d (record b { place = place })) (kept_all c)
 
 -- the numbers from one more on
 lesser_suc : (a : ℕ) (o : Option ℕ) → lesser (suc a) (option_map suc o) ≡ suc (lesser a o)
@@ -126,11 +126,12 @@ kept_more c front u n e once =
     ∙ ap (λ users. record { blocks = filter (λ b. not (list_any (nat_eq b.user) (drop (length front - n) front))) (without_block c.blocks u); recency = users }) (ap (take (length front - n)) e ∙ take_front (length front - n) front u (omega arith))
     ∙ sym (ap (λ us. record { blocks = filter (λ b. not (list_any (nat_eq b.user) (drop (length us - n) us))) (without_block c.blocks u); recency = take (length us - n) us }) left)
 
--- Where no gap is large enough, a new block comes to the same after the least recently used has left.
-pub with_new-evicts : (c : Cache) (bottom top size u user : ℕ) (front name : List ℕ) → IsCache c (2 ^ 32) bottom top → bottom + size ≤ top → c.recency ≡ front ++ u ∷ [] → gap_from bottom size top c.blocks ≡ None →
-    with_new (without c u) bottom top size user name ≡ with_new c bottom top size user name
+-- Where no gap is large enough, a block comes to the same after the least recently used has left.
+pub with_fitted-evicts : (c : Cache) (b : CacheBlock) (bottom top u : ℕ) (front : List ℕ) → IsCache c (2 ^ 32) bottom top → bottom + b.size ≤ top → c.recency ≡ front ++ u ∷ [] → gap_from bottom b.size top c.blocks ≡ None →
+    with_fitted (without c u) bottom top b ≡ with_fitted c bottom top b
 unfolding evictions fits_after
-with_new-evicts c bottom top size u user front name is fits e none =
+with_fitted-evicts c b bottom top u front is fits e none =
+    let size = b.size in
     let once : count_in u c.recency ≤ 1 = omega (arith, is.recency u, is.one_each u) in
     let left : without_user c.recency u ≡ front = ap (λ us. without_user us u) e ∙ front_left front u (rw e at once) in
     let rest = (later-without c (2 ^ 32) bottom top u is).cache in
@@ -141,9 +142,9 @@ with_new-evicts c bottom top size u user front name is fits e none =
     let skip : least (filter (fits_after c bottom top size) (range_with_len 0 (suc (length c.recency)))) ≡ least (filter (fits_after c bottom top size) (range_with_len 1 (length c.recency))) = rw off refl in
     let some : evictions c bottom top size ≡ Some (suc found.0) =
     skip ∙ ap (λ n. least (filter (fits_after c bottom top size) (range_with_len 1 n))) long ∙ least_shifted (fits_after c bottom top size) (fits_after (without c u) bottom top size) 0 1 (suc (length (without c u).recency)) refl same ∙ ap (option_map suc) found.2 in
-    with_new-placed (without c u) bottom top size user found.0 found.1 name found.2 found.3
-    ∙ ap (λ d. with_block d (new_block found.1 size user name)) (sym (kept_more c front u found.0 e once))
-    ∙ sym (with_new-placed c bottom top size user (suc found.0) found.1 name some (ap (λ (d : Cache). fit d.blocks bottom top size) (kept_more c front u found.0 e once) ∙ found.3))
+    with_fitted-placed (without c u) b bottom top found.0 found.1 found.2 found.3
+    ∙ ap (λ d. with_block d (record b { place = found.1 })) (sym (kept_more c front u found.0 e once))
+    ∙ sym (with_fitted-placed c b bottom top (suc found.0) found.1 some (ap (λ (d : Cache). fit d.blocks bottom top size) (kept_more c front u found.0 e once) ∙ found.3))
 
 -- What an eviction leaves.
 pub evicted : (c : Cache) (bottom top size u : ℕ) (front : List ℕ) → IsCache c (2 ^ 32) bottom top → bottom + size ≤ top → c.recency ≡ front ++ u ∷ [] → gap_from bottom size top c.blocks ≡ None → IsEvicted bottom top size c (without c u)
@@ -152,7 +153,7 @@ evicted c bottom top size u front is fits e none =
     let left : without_user c.recency u ≡ front = ap (λ us. without_user us u) e ∙ front_left front u (rw e at once) in
     record {
       order = (later-without c (2 ^ 32) bottom top u is).cache;
-      same = λ user name. with_new-evicts c bottom top size u user front name is fits e none;
+      same = λ b same. with_fitted-evicts c b bottom top u front is (omega (arith, fits, same)) e (rw same none);
       absent = λ user h. none-filtered (λ v. not (nat_eq v u)) user c.blocks (not (nat_eq user u)) refl h;
       fewer = omega (arith, ap length e, length-append front (u ∷ []), ap length left);
     }

@@ -1,13 +1,13 @@
 -- Worked examples, on a memory of 65536 bytes with a zone of 49152 and 8 users. Its low hunk ends at 49168.
 use Rattle.std.proofs.Common.{◌≡◌, ℕ, List, [], ◌∷◌, ◌++◌, Bool, Some, None, Result, Ok, Err, refl, true, false, map, replicate}
 use Rattle.mem_model.specs.Event.{Event.LowAlloc, Event.TempAlloc, Event.HighMark, Event.LowFree, FreeRefusal.NotZone, FreeRefusal.AlreadyFree, CacheRefusal.Occupied, CacheRefusal.BadSize, CacheRefusal.NoRoom}
-use Rattle.mem_model.specs.Memory.{Memory, new_memory, room}
+use Rattle.mem_model.specs.Memory.{Memory, low_used, new_memory, room}
 use Rattle.mem_model.specs.Places.{fit, hop}
-use Rattle.mem_model.specs.Cache.{hopped, up_in, pushed_up, down_in, pushed_down, evictions, with_new, peek_bytes, peek_place}
+use Rattle.mem_model.specs.Cache.{hopped, up_in, pushed_up, down_in, pushed_down, evictions, with_fitted, peek_bytes, peek_place}
 use Rattle.mem_model.specs.Zone.{chosen, with_taken, joined_at, with_free, position_of, zone_bytes, with_zone_bytes, rover_place}
 use Rattle.mem_model.specs.Hunk.{with_low, with_high, without_temp, over, low_bytes, with_low_bytes, temp_bytes, with_temp_bytes}
 use Rattle.mem_model.specs.Images.{with_cache_bytes, with_user_bytes}
-use Rattle.mem_model.specs.Operations.{low_alloc, low_free, high_taken, high_alloc, high_free, high_mark, temp_alloc, z_alloc, z_free, cache_alloc, check, cache_free, flush, build_low, build_cache, copy_low_to_cache}
+use Rattle.mem_model.specs.Operations.{low_alloc, low_free, high_taken, high_alloc, high_free, high_mark, temp_alloc, z_alloc, z_free, cache_alloc, check, cache_free, flush, build_low, build_cache, copy_low_to_cache, move_low_to_cache}
 
 abbrev fresh : Memory
 fresh = new_memory 65536 49152 8 0
@@ -88,24 +88,24 @@ abbrev before_up : Memory
 before_up = (cache_free (cache_alloc (cache_alloc (cache_alloc fresh 0 56 []).after 1 216 []).after 2 56 []).after 1).after
 
 cache_in_order : cache_shown (cache_alloc (cache_alloc (cache_alloc fresh 0 56 []).after 1 216 []).after 2 56 []).after ≡ ((49168, 0) ∷ (49264, 1) ∷ (49520, 2) ∷ [], 2 ∷ 1 ∷ 0 ∷ [])
-unfolding cache_alloc evictions with_new fit
+unfolding cache_alloc evictions with_fitted fit
 cache_in_order = refl
 
 -- The lowest block hops twice within the gap, and then behind all.
 up_first_hop : cache_shown (record before_up { cache = up_in 1 49376 65536 before_up.cache }) ≡ ((49264, 0) ∷ (49520, 2) ∷ [], 0 ∷ 2 ∷ [])
-unfolding cache_alloc evictions with_new fit hop cache_free up_in hopped
+unfolding cache_alloc evictions with_fitted fit hop cache_free up_in hopped
 up_first_hop = refl
 
 up_second_hop : cache_shown (record before_up { cache = up_in 2 49376 65536 before_up.cache }) ≡ ((49360, 0) ∷ (49520, 2) ∷ [], 0 ∷ 2 ∷ [])
-unfolding cache_alloc evictions with_new fit hop cache_free up_in hopped
+unfolding cache_alloc evictions with_fitted fit hop cache_free up_in hopped
 up_second_hop = refl
 
 pushed_up_behind : cache_shown (low_alloc before_up 192 []).after ≡ ((49520, 2) ∷ (49616, 0) ∷ [], 0 ∷ 2 ∷ [])
-unfolding low_alloc cache_alloc evictions with_new fit hop cache_free with_low pushed_up up_in hopped
+unfolding low_alloc cache_alloc evictions with_fitted fit hop cache_free with_low pushed_up up_in hopped
 pushed_up_behind = refl
 
 pushed_up_peek : peek_place (low_alloc before_up 192 []).after.cache 0 ≡ Some 49656
-unfolding low_alloc cache_alloc evictions with_new fit hop cache_free with_low pushed_up up_in hopped
+unfolding low_alloc cache_alloc evictions with_fitted fit hop cache_free with_low pushed_up up_in hopped
 pushed_up_peek = refl
 
 abbrev four : Memory
@@ -115,43 +115,43 @@ abbrev before_down : Memory
 before_down = (cache_free (check four 0).after 1).after
 
 four_places : cache_shown four ≡ ((49168, 0) ∷ (49264, 1) ∷ (49520, 2) ∷ (65424, 3) ∷ [], 3 ∷ 2 ∷ 1 ∷ 0 ∷ [])
-unfolding cache_alloc evictions with_new fit
+unfolding cache_alloc evictions with_fitted fit
 four_places = refl
 
 check_touches : ((check four 0).answer ≡ Some 49208) × (before_down.cache.recency ≡ 0 ∷ 3 ∷ 2 ∷ [])
-unfolding check cache_alloc evictions with_new fit cache_free
+unfolding check cache_alloc evictions with_fitted fit cache_free
 check_touches = (refl, refl)
 
 -- The highest block hops into the gap.
 pushed_down_into_gap : ((high_alloc before_down 16 []).answer ≡ Ok 65520) × (cache_shown (high_alloc before_down 16 []).after ≡ ((49168, 0) ∷ (49264, 3) ∷ (49520, 2) ∷ [], 3 ∷ 0 ∷ 2 ∷ []))
-unfolding check cache_alloc evictions with_new fit hop cache_free high_alloc high_taken without_temp with_high pushed_down down_in hopped
+unfolding check cache_alloc evictions with_fitted fit hop cache_free high_alloc high_taken without_temp with_high pushed_down down_in hopped
 pushed_down_into_gap = (refl, refl)
 
 abbrev before_freed : Memory
 before_freed = (cache_free (cache_alloc (cache_alloc (cache_alloc fresh 0 56 []).after 1 15960 []).after 2 56 []).after 1).after
 
 before_freed_places : cache_shown before_freed ≡ ((49168, 0) ∷ (65264, 2) ∷ [], 2 ∷ 0 ∷ [])
-unfolding cache_alloc evictions with_new fit cache_free
+unfolding cache_alloc evictions with_fitted fit cache_free
 before_freed_places = refl
 
 -- The highest block hops to where it still ends too high, and is freed.
 down_first_hop : cache_shown (record before_freed { cache = down_in 1 49312 before_freed.cache }) ≡ ((49168, 0) ∷ (49264, 2) ∷ [], 2 ∷ 0 ∷ [])
-unfolding cache_alloc evictions with_new fit hop cache_free down_in hopped
+unfolding cache_alloc evictions with_fitted fit hop cache_free down_in hopped
 down_first_hop = refl
 
 freed_down : ((high_alloc before_freed 16208 []).answer ≡ Ok 49328) × (cache_shown (high_alloc before_freed 16208 []).after ≡ ((49168, 0) ∷ [], 0 ∷ []))
-unfolding cache_alloc evictions with_new fit hop cache_free high_alloc high_taken without_temp with_high pushed_down down_in hopped
+unfolding cache_alloc evictions with_fitted fit hop cache_free high_alloc high_taken without_temp with_high pushed_down down_in hopped
 freed_down = (refl, refl)
 
 abbrev one_user : Memory
 one_user = (cache_alloc fresh 0 56 []).after
 
 cache_refuses : ((cache_alloc one_user 1 16400 []).answer ≡ Err (NoRoom (record { asked = 16448; room = 16368 }))) × ((cache_alloc one_user 0 0 []).answer ≡ Err (Occupied 0)) × ((cache_alloc one_user 1 0 []).answer ≡ Err BadSize)
-unfolding cache_alloc evictions with_new fit
+unfolding cache_alloc evictions with_fitted fit
 cache_refuses = (refl, refl, refl)
 
 cache_refusal_stays : (cache_alloc one_user 1 16400 []).after ≡ one_user
-unfolding cache_alloc evictions with_new fit
+unfolding cache_alloc evictions with_fitted fit
 cache_refusal_stays = refl
 
 abbrev two_users : Memory
@@ -159,19 +159,19 @@ two_users = (cache_alloc (cache_alloc fresh 0 8000 []).after 1 8000 []).after
 
 -- As few of the least recently used leave as have to, wherever they stand.
 evicts_oldest : cache_shown (cache_alloc two_users 2 8000 []).after ≡ ((49168, 2) ∷ (57216, 1) ∷ [], 2 ∷ 1 ∷ [])
-unfolding cache_alloc evictions with_new fit
+unfolding cache_alloc evictions with_fitted fit
 evicts_oldest = refl
 
 evicts_unchecked : cache_shown (cache_alloc (check two_users 0).after 2 8000 []).after ≡ ((49168, 0) ∷ (57216, 2) ∷ [], 2 ∷ 0 ∷ [])
-unfolding check cache_alloc evictions with_new fit
+unfolding check cache_alloc evictions with_fitted fit
 evicts_unchecked = refl
 
 evicts_both : cache_shown (cache_alloc two_users 2 16000 []).after ≡ ((49168, 2) ∷ [], 2 ∷ [])
-unfolding cache_alloc evictions with_new fit
+unfolding cache_alloc evictions with_fitted fit
 evicts_both = refl
 
 flush_empties : cache_shown (flush two_users).after ≡ ([], [])
-unfolding cache_alloc evictions with_new fit flush
+unfolding cache_alloc evictions with_fitted fit flush
 flush_empties = refl
 
 abbrev with_temp : Memory
@@ -236,13 +236,22 @@ doubled bytes = Ok (bytes ++ bytes)
 
 -- An image is of so many bytes as were said, and what stood behind it in the block stays.
 low_image : low_bytes (build_low loaded 49184 2 doubled).after 49184 ≡ Some (7 ∷ 8 ∷ 7 ∷ 8 ∷ replicate 12 0)
-unfolding low_alloc with_low pushed_up up_in cache_alloc evictions with_new fit temp_alloc high_taken without_temp with_high pushed_down down_in with_temp_bytes temp_bytes over build_low low_bytes with_low_bytes
+unfolding low_alloc with_low pushed_up up_in cache_alloc evictions with_fitted fit temp_alloc high_taken without_temp with_high pushed_down down_in with_temp_bytes temp_bytes over build_low low_bytes with_low_bytes
 low_image = refl
 
 cache_image : (peek_bytes (build_cache loaded 2 1 doubled).after.cache 2 ≡ Some (7 ∷ 7 ∷ replicate 6 0)) × ((build_cache loaded 2 1 doubled).after.cache.recency ≡ 2 ∷ [])
-unfolding low_alloc with_low pushed_up up_in cache_alloc evictions with_new fit temp_alloc high_taken without_temp with_high pushed_down down_in with_temp_bytes temp_bytes over build_cache peek_bytes with_cache_bytes with_user_bytes
+unfolding low_alloc with_low pushed_up up_in cache_alloc evictions with_fitted fit temp_alloc high_taken without_temp with_high pushed_down down_in with_temp_bytes temp_bytes over build_cache peek_bytes with_cache_bytes with_user_bytes
 cache_image = (refl, refl)
 
 low_copied : peek_bytes (copy_low_to_cache (build_low loaded 49184 2 doubled).after 49184 2 3).after.cache 2 ≡ Some (7 ∷ 8 ∷ 7 ∷ replicate 5 0)
-unfolding low_alloc with_low pushed_up up_in cache_alloc evictions with_new fit temp_alloc high_taken without_temp with_high pushed_down down_in with_temp_bytes temp_bytes over build_low low_bytes with_low_bytes copy_low_to_cache peek_bytes with_cache_bytes with_user_bytes
+unfolding low_alloc with_low pushed_up up_in cache_alloc evictions with_fitted fit temp_alloc high_taken without_temp with_high pushed_down down_in with_temp_bytes temp_bytes over build_low low_bytes with_low_bytes copy_low_to_cache peek_bytes with_cache_bytes with_user_bytes
 low_copied = refl
+
+-- The same bytes are moved, and the low hunk ends at the mark, where there is no block for them too.
+low_moved : (peek_bytes (move_low_to_cache (build_low loaded 49184 2 doubled).after 49168 3 3 []).after.cache 3 ≡ Some (7 ∷ 8 ∷ 7 ∷ replicate 5 0)) × (low_used (move_low_to_cache (build_low loaded 49184 2 doubled).after 49168 3 3 []).after ≡ 49168)
+unfolding low_alloc low_free with_low pushed_up up_in cache_alloc evictions with_fitted fit temp_alloc high_taken without_temp with_high pushed_down down_in with_temp_bytes temp_bytes over build_low low_bytes with_low_bytes copy_low_to_cache move_low_to_cache peek_bytes with_cache_bytes with_user_bytes
+low_moved = (refl, refl)
+
+low_not_moved : ((move_low_to_cache loaded 49168 2 3 []).answer ≡ Err (Occupied 2)) × (low_used (move_low_to_cache loaded 49168 2 3 []).after ≡ 49168)
+unfolding low_alloc low_free with_low pushed_up up_in cache_alloc evictions with_fitted fit temp_alloc high_taken without_temp with_high pushed_down down_in with_temp_bytes over move_low_to_cache
+low_not_moved = (refl, refl)

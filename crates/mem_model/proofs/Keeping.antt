@@ -1,5 +1,5 @@
 -- What each operation leaves of the blocks that a table names.
-use Rattle.std.proofs.Common.{Bool, ◌≡◌, ◌≢◌, ℕ, zero, suc, ◌≤◌, ◌<◌, List, [], ◌∷◌, Option, Some, None, Result, Ok, length, refl, sym, ap, subst, ◌∙◌, arith}
+use Rattle.std.proofs.Common.{Bool, ◌≡◌, ◌≢◌, ℕ, zero, suc, ◌+◌, ◌≤◌, ◌<◌, List, [], ◌∷◌, Option, Some, None, Result, Ok, length, refl, sym, ap, subst, ◌∙◌, arith}
 use Rattle.std.specs.Prelude.{All, Contains, IsSome, slice_index_or}
 use Rattle.std.specs.Option.{option_map}
 use Rattle.std.proofs.lemmas.List.Elements.{All-contains, Contains-get_or}
@@ -8,11 +8,11 @@ use Rattle.mem_model.specs.Hunk.{low_bytes, with_low_bytes, with_temp_bytes, wit
 use Rattle.mem_model.specs.Zone.{with_zone_bytes}
 use Rattle.mem_model.specs.Cache.{block_of, peek_bytes}
 use Rattle.mem_model.specs.Answer.{Answered, Answers, Gives}
-use Rattle.mem_model.specs.Operations.{low_alloc, low_free, high_alloc, high_free, high_mark, temp_alloc, z_alloc, z_free, cache_alloc, check, cache_free, flush, build_low, build_cache, copy_low_to_cache}
+use Rattle.mem_model.specs.Operations.{low_alloc, low_free, high_alloc, high_free, high_mark, temp_alloc, z_alloc, z_free, cache_alloc, check, cache_free, flush, build_low, build_cache, copy_low_to_cache, move_low_to_cache}
 use Rattle.mem_model.specs.Laid.{Laid, IsText}
-use Rattle.mem_model.specs.Keeps.{AreLow, Keeps, KeepsAll, KeepsUsers, beside_zone, held, unplaced}
-use Rattle.mem_model.proofs.CacheImages.{beside-build_cache, beside-copy_low_to_cache, keeps-build_cache, keeps-copy_low_to_cache}
-use Rattle.mem_model.proofs.CacheLaws.{after_gives, beside-cache_alloc, beside-cache_free, beside-check, beside-flush, beside-high_alloc, beside-high_free, beside-high_mark, beside-temp_alloc, beside-without_temp, beside-z_alloc, beside-z_free, block_shown, keeps-build_low, keeps-cache_alloc, keeps-cache_free, keeps-check, keeps-flush, keeps-high_alloc, keeps-high_free, keeps-high_mark, keeps-low_alloc, keeps-low_free, keeps-temp_alloc, keeps-without_temp, keeps_users_same, low_bytes-beside_cache, low_bytes-beside_high, low_bytes-beside_zone, peek_bytes-held, users-build_cache, users-build_low, users-cache_alloc, users-cache_free, users-check, users-copy_low_to_cache, users-flush, users-high_alloc, users-high_free, users-high_mark, users-low_alloc, users-low_free, users-temp_alloc, users-with_low_bytes, users-with_temp_bytes}
+use Rattle.mem_model.specs.Keeps.{AreLow, Keeps, KeepsUsers, beside_zone, held, unplaced}
+use Rattle.mem_model.proofs.CacheImages.{Laid-copy_low_to_cache, beside-build_cache, beside-copy_low_to_cache, keeps-build_cache, keeps-copy_low_to_cache}
+use Rattle.mem_model.proofs.CacheLaws.{Laid-cache_alloc, Laid-low_free, moved_by, after_gives, beside-cache_alloc, beside-cache_free, beside-check, beside-flush, beside-high_alloc, beside-high_free, beside-high_mark, beside-temp_alloc, beside-without_temp, beside-z_alloc, beside-z_free, block_shown, keeps-build_low, keeps-cache_alloc, keeps-cache_free, keeps-check, keeps-flush, keeps-high_alloc, keeps-high_free, keeps-high_mark, keeps-low_alloc, keeps-low_free, keeps-temp_alloc, keeps-without_temp, keeps_users_same, low_bytes-beside_cache, low_bytes-beside_high, low_bytes-beside_zone, peek_bytes-held, users-build_cache, users-build_low, users-cache_alloc, users-cache_free, users-check, users-copy_low_to_cache, users-flush, users-high_alloc, users-high_free, users-high_mark, users-low_alloc, users-low_free, users-temp_alloc, users-with_low_bytes, users-with_temp_bytes}
 use Rattle.mem_model.proofs.Laws.{low_bytes-build_low, low_bytes-elsewhere, low_bytes-inside, low_bytes-low_alloc, low_bytes-low_free, low_place_apart}
 
 -- The relation goes from step to step, and holds of fewer blocks.
@@ -160,6 +160,15 @@ pub Keeps-copy_low_to_cache : (lows except : List ℕ) (m : Memory) (place user 
 Keeps-copy_low_to_cache lows except m place user size is =
     by_user lows except user m _ is (λ other. low_bytes-beside_cache m _ other (beside-copy_low_to_cache m place user size)) (keeps-copy_low_to_cache m place user size) (users-copy_low_to_cache m place user size)
 
+-- A moving is of a user that is excepted, and of a low block above each of the table's.
+pub Keeps-move_low_to_cache : (lows except : List ℕ) (m : Memory) (mark user size : ℕ) (name : List ℕ) → Laid m → user < m.users → IsText name → Contains except user → All (λ place. place ≤ mark) lows →
+    Keeps lows except m (move_low_to_cache m mark user size name).after
+Keeps-move_low_to_cache lows except m mark user size name laid known text is below =
+    (moved_by (λ n. Laid n × Keeps lows except m n) m mark user size name
+    (Laid-cache_alloc m user size name laid known text, Keeps-cache_alloc lows except m user size name laid known text is)
+    (λ n p. (Laid-copy_low_to_cache n (mark + 16) user size p.0, Keeps-more p.1 (Keeps-copy_low_to_cache lows except n (mark + 16) user size is)))
+    (λ n p. (Laid-low_free n mark p.0, Keeps-more p.1 (Keeps-low_free lows except n mark p.0 below)))).1
+
 -- Who is excepted: nobody, or one user.
 pub none_excepted : (user : ℕ) → ¬ Contains [] user
 none_excepted user is = absurd (omega (arith, is.1))
@@ -203,4 +212,4 @@ low-below_end m lows laid low = λ k d inside.
     omega (arith, low_bytes-inside m place bytes.0 laid bytes.1)
 
 -- for callers: `#[tactic(auto, using(mem_model::proofs::Keeping::keeping_laws))]`
-pub ruleset keeping_laws = (Keeps-all, Keeps-more, Keeps-answer, Keeps-gives, Keeps-low_alloc, Keeps-low_free, Keeps-build_low, Keeps-with_low_bytes, Keeps-without_temp, Keeps-high_alloc, Keeps-high_mark, Keeps-high_free, Keeps-temp_alloc, Keeps-with_temp_bytes, Keeps-beside_zone, Keeps-z_alloc, Keeps-z_free, Keeps-with_zone_bytes, Keeps-cache_alloc, Keeps-check, Keeps-cache_free, Keeps-flush, Keeps-build_cache, Keeps-copy_low_to_cache, none_excepted, is_excepted, not_excepted, peek_bytes-Keeps, AreLow-Keeps, low_new-apart, low-below_end)
+pub ruleset keeping_laws = (Keeps-all, Keeps-more, Keeps-answer, Keeps-gives, Keeps-low_alloc, Keeps-low_free, Keeps-build_low, Keeps-with_low_bytes, Keeps-without_temp, Keeps-high_alloc, Keeps-high_mark, Keeps-high_free, Keeps-temp_alloc, Keeps-with_temp_bytes, Keeps-beside_zone, Keeps-z_alloc, Keeps-z_free, Keeps-with_zone_bytes, Keeps-cache_alloc, Keeps-check, Keeps-cache_free, Keeps-flush, Keeps-build_cache, Keeps-copy_low_to_cache, Keeps-move_low_to_cache, none_excepted, is_excepted, not_excepted, peek_bytes-Keeps, AreLow-Keeps, low_new-apart, low-below_end)

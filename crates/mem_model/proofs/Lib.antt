@@ -35,3 +35,4 @@ pub mod CacheImages
 pub mod CacheLaws
 pub mod Building
 pub mod Keeping
+pub mod Moving

@@ -108,16 +108,21 @@ new_block place size user name = record { place = place; size = size; user = use
 abbrev pub with_block : Cache → CacheBlock → Cache
 with_block c b = record { blocks = put_in c.blocks b; recency = b.user ∷ c.recency }
 
-abbrev pub placed : Cache → ℕ → ℕ → List ℕ → Option ℕ → Cache
-placed c size user name None = c
-placed c size user name (Some place) = with_block c (new_block place size user name)
+-- the same with a block that stands at a place, where there is one
+abbrev pub placed : Cache → CacheBlock → Option ℕ → Cache
+placed c b None = c
+placed c b (Some place) = with_block c (record b { place = place })
 
 abbrev pub made_room : Cache → Option ℕ → Cache
 made_room c None = c
 made_room c (Some n) = kept c n
 
--- Those users leave that have to, and a new block stands at its fit among the rest.
-unfoldable pub with_new : Cache → ℕ → ℕ → ℕ → ℕ → List ℕ → Cache
-with_new c bottom top size user name =
-    let rest : Cache = made_room c (evictions c bottom top size) in
-    placed rest size user name (fit rest.blocks bottom top size)
+-- Those users leave that have to, and a block stands at its fit among the rest.
+unfoldable pub with_fitted : Cache → ℕ → ℕ → CacheBlock → Cache
+with_fitted c bottom top b =
+    let rest : Cache = made_room c (evictions c bottom top b.size) in
+    placed rest b (fit rest.blocks bottom top b.size)
+
+-- the same with a block of zero bytes
+abbrev pub with_new : Cache → ℕ → ℕ → ℕ → ℕ → List ℕ → Cache
+with_new c bottom top size user name = with_fitted c bottom top (new_block 0 size user name)

@@ -125,3 +125,15 @@ build_cache m user len image_of = record { answer = tt; after = with_image m (wi
 -- The front of a user's block becomes the first `size` bytes of a low block.
 unfoldable pub copy_low_to_cache : Memory → ℕ → ℕ → ℕ → Answered (Unit {0})
 copy_low_to_cache m place user size = record { answer = tt; after = with_cache_bytes m user (front_of (low_bytes m place) size) }
+
+-- the memory with those bytes in a user's new block, where that was given
+abbrev pub copied_if : Memory → ℕ → ℕ → ℕ → Result (Unit {0}) CacheRefusal → Memory
+copied_if m place user size (Ok done) = (copy_low_to_cache m place user size).after
+copied_if m place user size (Err refusal) = m
+
+-- A user gets a block with the first `size` bytes of the low block that stands at a mark, and the low hunk is cut there,
+-- whether or not the block was given.
+unfoldable pub move_low_to_cache : Memory → ℕ → ℕ → ℕ → List ℕ → Answered (Result (Unit {0}) CacheRefusal)
+move_low_to_cache m mark user size name =
+    let given : Answered (Result (Unit {0}) CacheRefusal) = cache_alloc m user size name in
+    record { answer = given.answer; after = (low_free (copied_if given.after (mark + 16) user size given.answer) mark).after }

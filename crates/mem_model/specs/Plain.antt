@@ -1,7 +1,9 @@
 -- Where a plain store's vectors have what is looked for.
-use Rattle.std.specs.Prelude.{ℕ, ◌+◌, ◌≡◌, ◌<◌, List, [], ◌∷◌, Bool, ◌&&◌, nat_le, not, Some, length, slice_get, slice_set, take}
+use Rattle.std.specs.Prelude.{ℕ, ◌+◌, ◌≡◌, ◌<◌, ◌≤◌, List, [], ◌∷◌, Bool, ◌&&◌, nat_le, not, Some, None, length, slice_get, slice_set, take}
 use Rattle.mem_model.specs.Blocks.{HunkBlock, ZoneBlock}
-use Rattle.mem_model.specs.Memory.{size_of}
+use Rattle.mem_model.specs.Memory.{Memory, room, size_of}
+use Rattle.mem_model.specs.Cache.{block_of}
+use Rattle.mem_model.specs.Places.{cache_need}
 use Rattle.mem_model.specs.Hunk.{bytes_above, with_bytes_above, with_bytes, cut_above, cut_from, last_bytes, with_last_bytes}
 use Rattle.mem_model.specs.Zone.{used_bytes_from, with_payload, with_payload_from}
 
@@ -26,6 +28,13 @@ pub record IsCut (blocks : List HunkBlock) (mark n : ℕ) : Type 0 where
 pub record IsHighCut (blocks : List HunkBlock) (mark n : ℕ) : Type 0 where
   pub kept : cut_from 0 blocks mark ≡ Some (take n blocks)
   pub ends : size_of (take n blocks) ≡ mark
+
+-- A new block of the user is given, and takes so much: the user has none, and there is room.
+pub record IsGiven (m : Memory) (user size need : ℕ) : Type 0 where
+  pub absent : block_of m.cache user ≡ None
+  pub some : 0 < size
+  pub is : need ≡ cache_need size
+  pub fits : need ≤ room m
 
 -- The newest block is that at position n.
 pub record IsLast (blocks : List HunkBlock) (n : ℕ) : Type 0 where

@@ -5,7 +5,7 @@ use Rattle.std.specs.List.{insert}
 use Rattle.mem_model.specs.Blocks.{CacheBlock}
 use Rattle.mem_model.specs.Memory.{Cache}
 use Rattle.mem_model.specs.Places.{end_of, is_clear}
-use Rattle.mem_model.specs.Cache.{put_in, without_block, pushed_up, pushed_down, with_new}
+use Rattle.mem_model.specs.Cache.{put_in, without_block, pushed_up, pushed_down, with_fitted}
 use Rattle.mem_model.specs.Gaps.{IsGap, gap_from, start_of}
 use Rattle.mem_model.specs.Laid.{AreBetween, IsCache, count_in, users_of}
 
@@ -59,15 +59,15 @@ pub record IsAround (blocks : List CacheBlock) (start size top at : ℕ) : Type 
   pub fits : edge start blocks at + size ≤ start_of top (drop at blocks) → IsGap blocks start size top at (edge start blocks at)
   pub full : start_of top (drop at blocks) < edge start blocks at + size → gap_from start size top blocks ≡ None
 
--- What evictions leave: a new block comes to the same.
+-- What evictions leave: a block of the size comes to the same.
 pub record IsRoom (bottom top size : ℕ) (before after : Cache) : Type 0 where
   pub order : IsCache after (2 ^ 32) bottom top
-  pub same : (user : ℕ) (name : List ℕ) → with_new after bottom top size user name ≡ with_new before bottom top size user name
+  pub same : (b : CacheBlock) → b.size ≡ size → with_fitted after bottom top b ≡ with_fitted before bottom top b
   pub absent : (user : ℕ) → count_in user (users_of before.blocks) ≡ 0 → count_in user (users_of after.blocks) ≡ 0
 
 -- One eviction, where no gap was large enough, leaves a user less too.
 pub record IsEvicted (bottom top size : ℕ) (before after : Cache) : Type 0 where
   pub order : IsCache after (2 ^ 32) bottom top
-  pub same : (user : ℕ) (name : List ℕ) → with_new after bottom top size user name ≡ with_new before bottom top size user name
+  pub same : (b : CacheBlock) → b.size ≡ size → with_fitted after bottom top b ≡ with_fitted before bottom top b
   pub absent : (user : ℕ) → count_in user (users_of before.blocks) ≡ 0 → count_in user (users_of after.blocks) ≡ 0
   pub fewer : length after.recency < length before.recency

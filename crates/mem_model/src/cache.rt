@@ -5,11 +5,11 @@ ghost use Rattle.std.specs.Prelude.{ℕ, List, map, is_some, IfOk, OnOk, OnErr, 
 ghost use Rattle.std.specs.List.{AllByRecursion, insert, remove};
 ghost use Rattle.std.specs.Borrow.{sem, Lends, u8 as byte, Array};
 ghost use Rattle.mem_model.specs.Blocks.{CacheBlock};
-ghost use Rattle.mem_model.specs.Cache.{without_user, without, moved, lowest_below, pushed_up, highest_above, pushed_down, block_of, find_block, with_new, touched, peek_place, peek_bytes};
+ghost use Rattle.mem_model.specs.Cache.{without_user, without, moved, lowest_below, pushed_up, highest_above, pushed_down, block_of, find_block, with_fitted, touched, peek_place, peek_bytes};
 ghost use Rattle.mem_model.specs.Images.{with_user_bytes};
 ghost use Rattle.mem_model.specs.Rows.{cache_row};
 ghost use Rattle.mem_model.specs.Told.{row_answer, place_answer};
-ghost use Rattle.mem_model.specs.Laid.{AreBetween, IsCache, IsMultiple, IsText};
+ghost use Rattle.mem_model.specs.Laid.{AreBetween, IsCache, IsCacheBlock};
 ghost use Rattle.mem_model.specs.Memory.{cache_of};
 ghost use Rattle.mem_model.specs.Gaps.{gap_from, IsGap, HasSize, start_of, size_of_cache};
 ghost use Rattle.mem_model.specs.Tables.{IsTable, IsOwn};
@@ -426,29 +426,22 @@ impl PlainCache {
         }
     }
 
-    /// A user without a block gets one of `size` bytes, its header of 40 included, at the first gap that is large enough.
-    /// Where there is none, as few of the least recently used leave as have to.
+    /// The block of a user that has none comes to stand at the first gap that is large enough. Where there is none, as few
+    /// of the least recently used leave as have to.
     ///
     /// Want of memory changes nothing.
-    pub fn add(
-        &mut self,
-        alloc: Global,
-        bottom: u32,
-        top: u32,
-        user: u32,
-        size: u32,
-        name: &[u8],
-    ) -> Result<(), AllocError>
+    pub fn add(&mut self, bottom: u32, top: u32, cell: CacheCell) -> Result<(), AllocError>
         requires between { AreBetween bottom top self.old.blocks }
         requires small { top ≤ 2 ^ 26 }
-        requires size { (48 ≤ size) × (IsMultiple 16 size) }
-        requires fits { bottom + size ≤ top }
-        requires name { IsText name.now }
-        requires free { block_of self.old user ≡ None }
-        ensures ok { OnOk result (self.new ≡ with_new self.old bottom top size user name.now) }
+        requires block { IsCacheBlock (2 ^ 32) cell }
+        requires fits { bottom + cell.size ≤ top }
+        requires free { block_of self.old cell.user ≡ None }
+        ensures ok { OnOk result (self.new ≡ with_fitted self.old bottom top cell) }
         ensures err { OnErr result (self.new ≡ self.old) }
     {
-        let mut cell = CacheCell::zeroed(alloc, size, user, name)?;
+        let user = cell.user();
+        let size = cell.size();
+        let mut cell = cell;
         self.cells.reserve(1)?;
         self.recency.reserve(1)?;
         reach(&mut self.places, user)?;

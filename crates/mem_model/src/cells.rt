@@ -101,6 +101,13 @@ impl HunkCell {
         }
     }
 
+    /// The bytes, which outlast the block.
+    pub fn into_bytes(self) -> Vec<u8>
+        ensures { result.items ≡ self.bytes }
+    {
+        self.bytes
+    }
+
     pub fn bytes(&self) -> &[u8]
         ensures { result.now ≡ self.now.bytes }
     {
@@ -229,6 +236,38 @@ impl CacheCell {
         ensures { IfOk result (λ c. c ≡ new_block 0 size user name.now) }
     {
         let bytes = vec![in alloc; 0; (size - 40) as usize]?;
+        CacheCell::holding(alloc, size, user, name, bytes)
+    }
+
+    /// The same with some bytes, which are cut, or followed by zeros, to as many as the block has.
+    pub fn filled(
+        alloc: Global,
+        size: u32,
+        user: u32,
+        name: &[u8],
+        bytes: Vec<u8>,
+    ) -> Result<CacheCell, AllocError>
+        requires { 40 ≤ size }
+        ensures { IfOk result (λ c. c ≡ with_contents (new_block 0 size user name.now) bytes.items) }
+    {
+        let len = (size - 40) as usize;
+        let mut bytes = bytes;
+        // No more room than that: an allocator often has a few bytes behind a block, and then copies nothing.
+        bytes.reserve_exact(len.saturating_sub(bytes.len()))?;
+        bytes.resize(len, 0)?;
+        CacheCell::holding(alloc, size, user, name, bytes)
+    }
+
+    // The same with these bytes as they are.
+    fn holding(
+        alloc: Global,
+        size: u32,
+        user: u32,
+        name: &[u8],
+        bytes: Vec<u8>,
+    ) -> Result<CacheCell, AllocError>
+        ensures { IfOk result (λ c. c ≡ record (new_block 0 size user name.now) { bytes = bytes.items }) }
+    {
         let mut front = Vec::new(alloc);
         front.extend_from_slice(&name[..name.len().min(15)])?;
         Ok(CacheCell {

@@ -1,14 +1,14 @@
 //! A store over vectors.
 
-ghost use Rattle.std.specs.Prelude.{◌≡◌, ◌<◌, ◌≤◌, ◌^◌, ◌↔◌, length, IfOk, IsOkAnd, Err, IsSome, MatchOption, None, false};
+ghost use Rattle.std.specs.Prelude.{◌≡◌, ◌<◌, ◌≤◌, ◌^◌, ◌+◌, ◌↔◌, ℕ, List, length, IfOk, IfErr, IsOkAnd, Err, IsSome, MatchOption, Some, None, false, true};
 ghost use Rattle.mem_model.specs.Memory.{new_memory};
-ghost use Rattle.mem_model.specs.Hunk.{bytes_above, cut_above, cut_from, last_bytes, over, without_temp};
+ghost use Rattle.mem_model.specs.Hunk.{bytes_above, cut_above, cut_from, last_bytes, low_bytes, over, without_temp};
 ghost use Rattle.mem_model.specs.Images.{HasBytes, front_of};
-ghost use Rattle.mem_model.specs.Operations.{high_taken};
+ghost use Rattle.mem_model.specs.Operations.{cache_alloc, high_taken};
 ghost use Rattle.mem_model.specs.Answer.{Gives};
-ghost use Rattle.mem_model.specs.Told.{room_answer};
+ghost use Rattle.mem_model.specs.Told.{cache_answer, room_answer};
 ghost use Rattle.mem_model.specs.Places.{hunk_need, zone_need, cache_need};
-ghost use Rattle.mem_model.specs.Plain.{IsAt, IsCut, IsHighCut, IsLast};
+ghost use Rattle.mem_model.specs.Plain.{IsAt, IsCut, IsGiven, IsHighCut, IsLast};
 ghost use Rattle.mem_model.specs.Laid.{Laid, IsMultiple, IsText};
 
 use crate::answers::{
@@ -16,7 +16,7 @@ use crate::answers::{
 };
 use crate::builder::Builder;
 use crate::cache::PlainCache;
-use crate::cells::{HunkCell, add};
+use crate::cells::{CacheCell, HunkCell, add};
 use crate::store::Store;
 use crate::zone::PlainZone;
 use std::alloc::Global;
@@ -177,6 +177,46 @@ impl PlainStore {
         }
         let last = self.high_ends.binary_search(&mark).ok()?;
         Some(last + 1)
+    }
+
+    // The bytes of the low block at a mark, to which the low hunk is freed.
+    fn take_low(&mut self, mark: u32) -> Vec<u8>
+        requires { IsSome (low_bytes self.old (mark + 16)) }
+        ensures bytes { low_bytes self.old (mark + 16) ≡ Some result.items }
+        ensures cut { cut_above self.old.low mark ≡ Some self.new.low }
+        ensures rest { self.new ≡ record self.old { low = self.new.low } }
+    {
+        let Some(kept) = self.low_kept(mark) else {
+            unreachable!()
+        };
+        self.low.truncate(kept + 1);
+        let Some(cell) = self.low.pop() else {
+            unreachable!()
+        };
+        self.low_ends.truncate(kept);
+        self.low_used = mark;
+        cell.into_bytes()
+    }
+
+    // What a new block of a user takes, or why it gets none, whatever memory there is.
+    fn block_need(&self, user: u32, size: u64) -> Result<u32, CacheError>
+        requires { size ≤ 2 ^ 62 }
+        ensures need { IfOk result (IsGiven self.now user size) }
+        ensures refused { IfErr result (λ error. (name : List ℕ) →
+            Gives (cache_alloc self.now user size name) true self.now (cache_answer (Err error)) self.now) }
+    {
+        if self.cache.has(user) {
+            return Err(CacheError::Occupied { user });
+        }
+        if size == 0 {
+            return Err(CacheError::BadSize);
+        }
+        let asked = cache_need(size);
+        let room = u64::from(self.room());
+        if asked > room {
+            return Err(CacheError::NoRoom { asked, room });
+        }
+        Ok(asked as u32)
     }
 
     // Frees the temporary block, where one is active.
@@ -390,20 +430,10 @@ impl Store for PlainStore {
     }
 
     fn cache_alloc(&mut self, user: u32, size: u64, name: &[u8]) -> Result<(), CacheError> {
-        if self.cache.has(user) {
-            return Err(CacheError::Occupied { user });
-        }
-        if size == 0 {
-            return Err(CacheError::BadSize);
-        }
-        let asked = cache_need(size);
-        let room = u64::from(self.room());
-        if asked > room {
-            return Err(CacheError::NoRoom { asked, room });
-        }
+        let need = self.block_need(user, size)?;
+        let cell = CacheCell::zeroed(self.alloc, need, user, name)?;
         let top = self.size - self.high_used;
-        self.cache
-            .add(self.alloc, self.low_used, top, user, asked as u32, name)?;
+        self.cache.add(self.low_used, top, cell)?;
         Ok(())
     }
 
@@ -435,6 +465,23 @@ impl Store for PlainStore {
             self.cache.bytes_mut(user),
             &self.low[at].bytes()[..size as usize],
         );
+    }
+
+    fn move_low_to_cache(
+        &mut self,
+        mark: u32,
+        user: u32,
+        size: u32,
+        name: &[u8],
+    ) -> Result<(), CacheError> {
+        let bottom = self.low_used;
+        let top = self.size - self.high_used;
+        let need = self.block_need(user, u64::from(size));
+        let mut bytes = self.take_low(mark);
+        bytes.truncate(size as usize);
+        let cell = CacheCell::filled(self.alloc, need?, user, name, bytes)?;
+        self.cache.add(bottom, top, cell)?;
+        Ok(())
     }
 
     fn cache_free(&mut self, user: u32) -> bool {

@@ -1,13 +1,13 @@
 //! One arena with a low hunk, a high hunk, a zone and a cache.
 
-ghost use Rattle.std.specs.Prelude.{◌≡◌, ℕ, ◌<◌, ◌≤◌, ◌^◌, List, Bool, Some, None, IsSome, is_some, MatchOption, IsOkAnd, length, slice_get};
+ghost use Rattle.std.specs.Prelude.{◌≡◌, ℕ, ◌+◌, ◌<◌, ◌≤◌, ◌^◌, List, Bool, Some, None, IsSome, is_some, MatchOption, IsOkAnd, length, slice_get};
 ghost use Rattle.std.specs.Borrow.{sem, Lends, u8 as byte, Array};
 ghost use Rattle.mem_model.specs.Memory.{Memory, low_used, high_used, room};
 ghost use Rattle.mem_model.specs.Answer.{Answers, Gives};
 ghost use Rattle.mem_model.specs.Told.{room_answer, zone_answer, cache_answer, place_answer, free_answer, mark_answer, row_answer};
 ghost use Rattle.mem_model.specs.Rows.{low_rows, high_rows, zone_rows, cache_rows};
 ghost use Rattle.mem_model.specs.Operations.{low_alloc, low_free, high_alloc, high_mark, high_free, temp_alloc, z_alloc, z_free, cache_alloc, check, cache_free, flush};
-ghost use Rattle.mem_model.specs.Operations.{build_low, build_cache, copy_low_to_cache};
+ghost use Rattle.mem_model.specs.Operations.{build_low, build_cache, copy_low_to_cache, move_low_to_cache};
 ghost use Rattle.mem_model.specs.Images.{HasBytes, front_of};
 ghost use Rattle.mem_model.specs.Cache.{peek_bytes, peek_place};
 ghost use Rattle.mem_model.specs.Hunk.{low_bytes, with_low_bytes, temp_bytes, with_temp_bytes, without_temp};
@@ -254,6 +254,27 @@ pub trait Store: Drop {
         requires low { HasBytes (low_bytes (state self.old) place.0) size }
         requires user { HasBytes (peek_bytes (state self.old).cache user) size }
         ensures gives { Answers (copy_low_to_cache (state self.old) place.0 user size) tt (state self.new) }
+        ensures laid { Laid (state self.new) };
+
+    /// A user without a block gets one with the first `size` bytes of the low block above the zone whose header is at a
+    /// mark, as `cache_alloc` and `copy_low_to_cache` give it. The low hunk is freed down to that mark, whether or not
+    /// there is a block. A store may hand the bytes over and copy none.
+    ///
+    /// The refusals are those of `cache_alloc`, by the room before the freeing. Each adds the events of that call and of
+    /// `low_free` where events are kept. It and want of memory change nothing else.
+    fn move_low_to_cache(
+        &mut self,
+        mark: u32,
+        user: u32,
+        size: u32,
+        name: &[u8],
+    ) -> Result<(), CacheError>
+        requires user { user < (state self.old).users }
+        requires name { IsText name.now }
+        requires low { HasBytes (low_bytes (state self.old) (mark + 16)) size }
+        ensures gives { Gives (move_low_to_cache (state self.old) mark user size name.now) frugal
+            (low_free (state self.old) mark).after (cache_answer result) (state self.new) }
+        ensures was_laid { Laid (state self.old) }
         ensures laid { Laid (state self.new) };
 
     /// Frees a user's block, and answers whether there was one.

@@ -65,7 +65,9 @@ fn cache_blocks_of_a_plain_store(rt: HostRuntime) -> Result<(), Fail> {
     a_cache_block_without_a_gap_leaves(&rt, plain(rt.alloc())?);
     the_cache_refuses_and_evicts(&rt, plain(rt.alloc())?)?;
     images_come_to_the_front_of_blocks(&rt, plain(rt.alloc())?)?;
-    an_image_goes_through_the_low_hunk(&rt, plain(rt.alloc())?)
+    an_image_goes_through_the_low_hunk(&rt, plain(rt.alloc())?)?;
+    an_image_is_moved_to_the_cache(&rt, plain(rt.alloc())?)?;
+    a_refused_image_leaves_the_low_hunk(&rt, plain(rt.alloc())?)
 }
 
 #[test]
@@ -393,6 +395,34 @@ fn builds_through_low<M: Store, B: Builder>(
     Some(())
 }
 
+// The same without a copy: the low block's bytes are moved.
+#[tactic(auto, using(crate::proofs::CacheLaws::cache_laws, crate::proofs::Laws::store_laws))]
+fn moves_through_low<M: Store, B: Builder>(
+    store: &mut M,
+    user: u32,
+    len: usize,
+    builder: &B,
+) -> Option<()>
+    requires source { HasBytes (temp_bytes (M.state store.old)) len }
+    requires user { user < (M.state store.old).users }
+    ensures kept { (lows : List ℕ) → AreLow (M.state store.old) lows →
+        Keeps lows (user ∷ []) (M.state store.old) (M.state store.new) }
+{
+    let source = store.temp_bytes()?;
+    let size = builder.size(&source[..len]).ok()?;
+    if size > 65_536 {
+        return None;
+    }
+    let mark = store.low_mark();
+    let Ok(place) = store.low_alloc(size, b"image") else {
+        return None;
+    };
+    store.build_low(place, len, builder);
+    store
+        .move_low_to_cache(mark, user, size as u32, b"image")
+        .ok()
+}
+
 // Copies the first bytes of a low block to a user's block, where both have as many.
 #[tactic(auto, using(crate::proofs::CacheLaws::cache_laws))]
 fn copies<M: Store>(store: &mut M, place: Place, user: u32, size: u32) -> Option<()>
@@ -565,6 +595,33 @@ fn an_image_goes_through_the_low_hunk<M: Store>(rt: &impl Abort, mut store: M) -
     assert_eq!(rt; builds_through_low(&mut store, 2, 3, &Doubled), Some(()));
     let copied = *b"quaqua\0\0";
     assert_eq!(rt; store.peek(2), Some(copied.as_slice()));
+    assert_eq!(rt; (store.low_mark(), store.temp_active()), (49_168, true));
+    Ok(())
+}
+
+#[tactic(auto, using(crate::proofs::CacheLaws::cache_laws, crate::proofs::Laws::store_laws))]
+fn an_image_is_moved_to_the_cache<M: Store>(rt: &impl Abort, mut store: M) -> Result<(), Fail>
+    requires { (M.state store).users ≡ 8 }
+{
+    store.temp_alloc(16)?;
+    put(store.temp_bytes_mut(), b"quake");
+    assert_eq!(rt; moves_through_low(&mut store, 2, 5, &Doubled), Some(()));
+    let moved = *b"quakequake\0\0\0\0\0\0\0\0\0\0\0\0\0\0";
+    assert_eq!(rt; store.peek(2), Some(moved.as_slice()));
+    assert_cache(rt, &store, &[(49_200, 2)], &[2]);
+    assert_eq!(rt; (store.low_mark(), store.temp_active()), (49_168, true));
+    Ok(())
+}
+
+#[tactic(auto, using(crate::proofs::CacheLaws::cache_laws, crate::proofs::Laws::store_laws))]
+fn a_refused_image_leaves_the_low_hunk<M: Store>(rt: &impl Abort, mut store: M) -> Result<(), Fail>
+    requires { (M.state store).users ≡ 8 }
+{
+    fill(rt, &mut store, &[8]);
+    store.temp_alloc(16)?;
+    put(store.temp_bytes_mut(), b"quake");
+    assert_eq!(rt; moves_through_low(&mut store, 0, 5, &Doubled), None);
+    assert_eq!(rt; store.peek(0), Some([0; 8].as_slice()));
     assert_eq!(rt; (store.low_mark(), store.temp_active()), (49_168, true));
     Ok(())
 }

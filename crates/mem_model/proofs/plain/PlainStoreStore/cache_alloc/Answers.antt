@@ -1,34 +1,32 @@
-use Rattle.std.proofs.Common.{◌≡◌, ◌∙◌, ◌<◌, ◌-◌, refl, ap, sym, subst, arith, false, Ok}
-use Rattle.std.specs.Prelude.{is_some}
+use Rattle.std.proofs.Common.{◌<◌, ◌-◌, refl, ap, sym, subst, arith, Ok}
+use Rattle.std.specs.Prelude.{◌^◌}
+use Rattle.std.proofs.lemmas.Result.{err_from_is_err_and}
 use Rattle.mem_model.specs.Answer.{Answers}
 use Rattle.mem_model.specs.Laid.{Laid}
-use Rattle.mem_model.specs.Memory.{Memory, room}
-use Rattle.mem_model.specs.Cache.{block_of}
+use Rattle.mem_model.specs.Memory.{Memory}
 use Rattle.mem_model.specs.Operations.{cache_alloc}
+use Rattle.mem_model.specs.Plain.{IsGiven}
 use Rattle.mem_model.specs.PlainState.{state_of}
-use Rattle.mem_model.proofs.Calling.{cache_alloc_occupied, cache_alloc_bad, cache_alloc_short, cache_alloc_taken}
+use Rattle.mem_model.proofs.Adding.{block_is}
 use Rattle.mem_model.proofs.CacheLaws.{Laid-cache_alloc}
+use Rattle.mem_model.proofs.Moving.{alloc_given, alloc_refused}
 use Rattle.mem_model.proofs.plain.PlainStoreStore.cache_alloc.Goals as goal
 
-pub returns-then-has-clause-gives : goal.returns-then-has-clause-gives
-returns-then-has-clause-gives c = rw (← c.self.view_is) (cache_alloc_occupied (state_of c.self.inside) c.args.user c.args.size c.args.name.now refl (sym c.if-has.ensures))
+pub returns-in_err-need-clause-gives : goal.returns-in_err-need-clause-gives
+returns-in_err-need-clause-gives c =
+    let p = err_from_is_err_and c.from_residual.result c.from_residual.ensures.1 in
+    rw (p.1, p.2) (alloc_refused c.args.self.now c.args.user c.args.size c.args.name.now _ _ c.in_err-need.field-0.0 (c.in_err-need.ensures.refused c.args.name.now))
 
-pub returns-then-size-eq0-clause-gives : goal.returns-then-size-eq0-clause-gives
-returns-then-size-eq0-clause-gives c = rw (← c.self.view_is) (cache_alloc_bad (state_of c.self.inside) c.args.user c.args.size c.args.name.now refl (sym c.if-has.ensures) c.if-size-eq0.true)
-
-pub returns-then-asked-room-clause-gives : goal.returns-then-asked-room-clause-gives
-returns-then-asked-room-clause-gives c =
-    let quiet = ap (λ (m : Memory). m.event_room) (sym c.self.view_is) in
-    let free : is_some (block_of c.args.self.now.cache c.args.user) ≡ false = ap (λ (m : Memory). is_some (block_of m.cache c.args.user)) (sym c.self.view_is) ∙ sym c.if-has.ensures in
-    rw (c.from-room.ensures, c.room.ensures.room, c.cache_need-asked.ensures)
-    (cache_alloc_short c.args.self.now c.args.user c.args.size c.args.name.now quiet free c.if-size-eq0.false (omega (arith, c.if-asked-room.true, c.from-room.ensures, c.room.ensures.room, c.cache_need-asked.ensures)))
+pub add-requires-clause-block : goal.add-requires-clause-block
+add-requires-clause-block c =
+    let given = c.in_ok-need.ensures.need in
+    rw c.in_ok-cell.ensures (block_is (2 ^ 32) c.in_ok-need.need c.args.user 0 c.args.name.now (omega (arith, given.is, given.some)) (omega (arith, given.is)) c.ranges.user.fits c.requires.name)
 
 taken : (c : goal.In_ok-add) → Answers (cache_alloc (state_of c.self.inside) c.args.user c.args.size c.args.name.now) (Ok tt) (record (state_of c.self.inside) { cache = c.add.new.self })
 taken c =
-    let left : c.from-room.result ≡ room (state_of c.self.inside) = c.from-room.ensures ∙ c.room.ensures.room ∙ ap room (sym c.self.view_is) in
-    let given = cache_alloc_taken (state_of c.self.inside) c.args.user c.args.size (c.self.inside.size - c.self.inside.high_used) c.args.name.now refl (sym c.if-has.ensures) c.if-size-eq0.false
-    (omega (arith, left, c.if-asked-room.false, c.cache_need-asked.ensures)) (ap (λ n. c.self.inside.size - n) c.self.invariant.high_used) in
-    rw (c.in_ok-add.ensures.ok, c.cache_need-asked.ensures, c.self.invariant.low_used) given
+    let given : IsGiven (state_of c.self.inside) c.args.user c.args.size c.in_ok-need.need = rw (← c.self.view_is) at c.in_ok-need.ensures.need in
+    let there = alloc_given (state_of c.self.inside) c.args.user c.args.size c.in_ok-need.need (c.self.inside.size - c.self.inside.high_used) c.args.name.now refl given (ap (λ n. c.self.inside.size - n) c.self.invariant.high_used) in
+    rw (c.in_ok-add.ensures.ok, c.in_ok-cell.ensures, c.self.invariant.low_used) there
 
 pub invariant_of-self-2 : goal.invariant_of-self-2
 invariant_of-self-2 c = record {
