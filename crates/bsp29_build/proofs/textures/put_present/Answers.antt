@@ -1,0 +1,16 @@
+use Rattle.std.proofs.Common.{refl}
+use Rattle.bsp29_build.specs.Textures.{present_row}
+use Rattle.bsp29_build.proofs.textures.put_present.Goals as goal
+
+pub returns : goal.returns
+unfolding present_row
+returns c =
+    rw (
+      c.fill_u32.ensures,
+      c.put_name.ensures,
+      c.split_at.ensures.front,
+      c.copy_from_slice.ensures.after,
+      c.split_at.ensures.back,
+      c.copy_from_slice-2.ensures.after,
+      c.fill_u32-2.ensures,
+    ) refl

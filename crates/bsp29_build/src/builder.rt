@@ -1,0 +1,44 @@
+// The builder of brush models.
+ghost use Rattle.std.specs.Prelude.{◌≡◌, length, Ok, IsOkAnd};
+ghost use Rattle.mem_model.specs.Images.{image_size};
+ghost use Rattle.bsp29_build.specs.Images.{image_of};
+
+use crate::images::put_image;
+use bsp29_tables::{BspFault, check_bsp};
+use mem_model::Builder;
+
+/// Makes the images of brush models.
+#[derive(Clone, Copy, Debug)]
+pub struct BspBuilder;
+
+// The length of the image in bytes.
+#[tactic(auto, using(crate::proofs::FineLaws::fine_laws, crate::proofs::ImageLaws::size_laws))]
+fn image_length(source: &[u8]) -> Result<u64, BspFault>
+    ensures { result ≡ image_size (image_of source.now) }
+{
+    check_bsp(source)?;
+    Ok(bsp29_tables::image_size(source))
+}
+
+// The block becomes the image.
+#[tactic(auto, using(crate::proofs::ImageLaws::image_laws))]
+fn fill(block: &mut [u8], source: &[u8])
+    requires { IsOkAnd (image_of source.now) (λ image. length image ≡ length block.old) }
+    ensures { image_of source.now ≡ Ok block.new }
+{
+    put_image(source, block);
+}
+
+impl Builder for BspBuilder {
+    type Fault = BspFault;
+
+    ghost image_of = { λ _ source. image_of source };
+
+    fn size(&self, source: &[u8]) -> Result<u64, BspFault> {
+        image_length(source)
+    }
+
+    fn build(&self, source: &[u8], block: &mut [u8]) {
+        fill(block, source);
+    }
+}

@@ -1,0 +1,105 @@
+// What an image tells of its model.
+ghost use Rattle.std.specs.Prelude.{◌≡◌, ◌<◌, ◌≤◌, ◌+◌, length};
+ghost use Rattle.base_fields.specs.Fields.{u32_in};
+ghost use Rattle.bsp29_build.specs.Readers.{offset_told, count_told, visleafs_told};
+ghost use Rattle.bsp29_build.specs.Readers.{number_told, texture_in, texture_told, IsBrush, TellsSections};
+
+use base_fields::u32_at;
+use bsp29_tables::MISSING;
+
+/// A texture of a brush model.
+#[derive(Clone, Copy, Debug, PartialEq, Eq)]
+pub struct BrushTexture {
+    /// The name, with zeros behind its first zero byte.
+    pub name: [u8; 16],
+    /// The width of its picture in pixels.
+    pub width: u32,
+    /// The height of its picture in pixels.
+    pub height: u32,
+    /// How long its animation goes, in tenths of a second, or 0 where it is no frame of one.
+    pub total: u32,
+    /// The time in its animation from which on it is shown.
+    pub least: u32,
+    /// The time in its animation before which it is shown.
+    pub greatest: u32,
+    /// The number of the next frame of its animation.
+    pub next: Option<u32>,
+    /// The number of the first frame of the other animation, which is shown in its place while it is switched over.
+    pub alternate: Option<u32>,
+}
+
+/// Where a section begins in the image of a brush model. Sections 0 to 14 are those of the lumps, and 15 is hull 0.
+#[tactic(auto, using(crate::proofs::ReaderLaws::reader_laws))]
+pub fn offset(image: &[u8], section: u32) -> u32
+    requires section { section < 16 }
+    requires header { 132 ≤ length image.now }
+    ensures place { result ≡ offset_told image.now section }
+    ensures tells { TellsSections image.now }
+{
+    u32_at(image, 8 * section as usize + 4)
+}
+
+/// How many rows a section of the image of a brush model has: bytes in the sections 0, 4 and 8, and textures in
+/// section 2.
+#[tactic(auto, using(crate::proofs::ReaderLaws::reader_laws))]
+pub fn count(image: &[u8], section: u32) -> u32
+    requires section { section < 16 }
+    requires header { 132 ≤ length image.now }
+    ensures rows { result ≡ count_told image.now section }
+    ensures tells { TellsSections image.now }
+{
+    u32_at(image, 8 * section as usize + 8)
+}
+
+/// How many leafs can be seen in the first model.
+#[tactic(auto, using(crate::proofs::ReaderLaws::reader_laws))]
+pub fn visleafs(image: &[u8]) -> u32
+    requires { IsBrush image.now }
+    ensures { result ≡ visleafs_told image.now }
+{
+    u32_at(image, offset(image, 14) as usize + 52)
+}
+
+// A number, or none.
+fn number_at(row: &[u8], at: usize) -> Option<u32>
+    requires { at + 4 ≤ length row.now }
+    ensures { result ≡ number_told (u32_in row.now at) }
+{
+    match u32_at(row, at) {
+        MISSING => None,
+        number => Some(number),
+    }
+}
+
+// What the row of a texture tells, where it isn't missing.
+fn read_texture(row: &[u8]) -> Option<BrushTexture>
+    requires { length row.now ≡ 68 }
+    ensures { result ≡ texture_in row.now }
+{
+    if u32_at(row, 0) == 0 {
+        return None;
+    }
+    let mut name = [0; 16];
+    name.copy_from_slice(&row[4..20]);
+    Some(BrushTexture {
+        name,
+        width: u32_at(row, 20),
+        height: u32_at(row, 24),
+        total: u32_at(row, 44),
+        least: u32_at(row, 48),
+        greatest: u32_at(row, 52),
+        next: number_at(row, 56),
+        alternate: number_at(row, 60),
+    })
+}
+
+/// The texture of a number, from 0 on: `None` exactly where it is missing.
+#[tactic(auto, using(crate::proofs::ReaderLaws::reader_laws))]
+pub fn texture(image: &[u8], number: u32) -> Option<BrushTexture>
+    requires image { IsBrush image.now }
+    requires below { number < count_told image.now 2 }
+    ensures { result ≡ texture_told image.now number }
+{
+    let start = offset(image, 2) as usize + 68 * number as usize;
+    read_texture(&image[start..start + 68])
+}
