@@ -38,7 +38,7 @@ bytes_of_none c user h = by (block_of c user) h where
   by None e = refl
   by (Some b) e = absurd (cc)
 
-not_held : (c : Cache) (user : ℕ) → ((b : CacheBlock) → held c user ≡ Some b → ⊥) → peek_bytes c user ≡ None
+pub not_held : (c : Cache) (user : ℕ) → ((b : CacheBlock) → held c user ≡ Some b → ⊥) → peek_bytes c user ≡ None
 unfolding peek_bytes held
 not_held c user h = by (block_of c user) h where
   by : (o : Option CacheBlock) → ((b : CacheBlock) → option_map unplaced o ≡ Some b → ⊥) → option_map (λ (b : CacheBlock). b.bytes) o ≡ None
@@ -108,17 +108,6 @@ module _ {mounts : List (Option Mount)} (t : Resources) (m : Memory) (table : Ta
     known = omega (arith, user_below table (slot_for name (rows_in t table)) room, is.users);
     absent = absent_user before;
   }
-
--- What was answered without the file.
-pub early_ok : (t : Resources) (new : Memory) (res : Res) (before after : Option Acquired) → before ≡ Some (record { answer = Ok res; table = t; after = new })
-    → IfSome (option_or before after) (λ given. Acquires (is_none before) given (Ok res) t new)
-early_ok t new res before after is = rw is (record { answer = refl; table_is = refl; after = refl })
-
-pub early_full : (t : Resources) (new : Memory) (e : AcquireError) (before after : Option Acquired) → before ≡ Some (record { answer = Err e; table = t; after = new })
-    → e ≡ error.TableFull → IfSome (option_or before after) (λ given. Acquires (is_none before) given (Err e) t new)
-early_full t new e before after is full =
-    subst (λ (x : AcquireError). before ≡ Some (record { answer = Err x; table = t; after = new }) → IfSome (option_or before after) (λ given. Acquires (is_none before) given (Err x) t new))
-    (sym full) (λ here. rw here (record { answer = refl; table_is = refl; after = refl })) is
 
 -- What was answered with it.
 module _ (t : Resources) (table : Table) (name : List ℕ) (m : Memory) (before : Option Acquired) (told : Option Loading) (needed : before ≡ None) where

@@ -26,6 +26,8 @@ use Rattle.res_table.specs.declared.answers.Fault.{Fault}
 use Rattle.res_table.specs.declared.answers.Fault.TheVariants as fault
 use Rattle.alias_load.specs.Images.{image_of as alias_of}
 use Rattle.alias_load.proofs.ImageLaws.{length_of_image as alias_long}
+use Rattle.bsp29_build.specs.Images.{image_of as brush_of}
+use Rattle.bsp29_build.proofs.ImageLaws.{length_of_image as brush_length}
 use Rattle.sprite_load.specs.Images.{image_of as sprite_of}
 use Rattle.sprite_load.proofs.ImageLaws.{length_of_image as sprite_long}
 use Rattle.wad2_lumps.specs.Images.{image_of as wad_of}
@@ -107,9 +109,6 @@ module _ (m mid : Memory) (user size : ℕ) (name : List ℕ) (gives : Answers (
 
   low-cached : (place : ℕ) → low_bytes mid place ≡ low_bytes m place
   low-cached place = ap (λ (n : Memory). low_bytes n place) gives.after ∙ low_bytes-beside_cache m _ place (beside-cache_alloc m user size name)
-
-  pub has-cached : (place n : ℕ) → HasBytes (low_bytes m place) n → HasBytes (low_bytes mid place) n
-  has-cached place n has = rw (low-cached place) has
 
   pub source-cached : (len : ℕ) → HasBytes (temp_bytes m) len → HasBytes (temp_bytes mid) len
   source-cached len has = rw temp-cached has
@@ -231,6 +230,11 @@ bounds_told tell (Ok image) size low high is bounds =
     let same : length image ≡ size = cc in
     subst (λ (n : ℕ). (low ≤ n) × (n ≤ high)) same (bounds image refl)
 
+brush_long : (bytes image : List ℕ) → brush_of bytes ≡ Ok image → (132 ≤ length image) × (length image ≤ 2 ^ 31)
+brush_long bytes image made =
+    let is = brush_length bytes image made in
+    (is.0, omega (arith, is.1))
+
 wad_long : (bytes image : List ℕ) → wad_of bytes ≡ Ok image → (12 ≤ length image) × (length image ≤ length bytes)
 wad_long bytes image made =
     let is = wad_length bytes image made in
@@ -238,6 +242,9 @@ wad_long bytes image made =
 
 pub image_bounds : (speed : ℕ) (kind : Kind) (bytes : List ℕ) (size : ℕ) → length bytes ≤ 2 ^ 26 → image_size (image_of speed kind bytes) ≡ Ok size
     → (0 < size) × (size < 2 ^ 32)
+image_bounds speed kind.Brush bytes size small is =
+    let bounds = bounds_told fault.Brush (brush_of bytes) size 132 (2 ^ 31) is (λ image made. brush_long bytes image made) in
+    (omega (arith, bounds.0), omega (arith, bounds.1))
 image_bounds speed kind.Alias bytes size small is =
     let bounds = bounds_told fault.Alias (alias_of bytes) size 88 (length bytes + 2 ^ 15) is (λ image made. alias_long bytes image made) in
     (omega (arith, bounds.0), omega (arith, bounds.1, small))
@@ -250,5 +257,3 @@ image_bounds speed kind.Wad bytes size small is =
 image_bounds speed kind.Sound bytes size small is =
     let bounds = bounds_told fault.Sound (sound_of speed bytes) size 20 (2 ^ 31 + 20) is (λ image made. sound_long speed bytes image made) in
     (omega (arith, bounds.0), omega (arith, bounds.1))
-
-pub ruleset caching = (never_occupied, never_bad)

@@ -1,6 +1,7 @@
 -- A game with two sounds in its table, of which one is in the cache. No mount has a file.
 use Rattle.std.proofs.Common.{◌≡◌, ℕ, ◌+◌, List, [], ◌∷◌, ◌++◌, false, replicate, Option, Some, None, Ok, Err, codes, refl}
-use Rattle.mem_model.specs.Cache.{evictions, peek_bytes, pushed_up, up_in, with_new}
+use Rattle.mem_model.specs.declared.answers.Place.{Place}
+use Rattle.mem_model.specs.Cache.{evictions, peek_bytes, pushed_up, up_in, with_fitted}
 use Rattle.mem_model.specs.Hunk.{over, with_low, with_low_bytes}
 use Rattle.mem_model.specs.Images.{with_cache_bytes, with_user_bytes}
 use Rattle.mem_model.specs.Memory.{Memory, cache_of, new_memory}
@@ -9,11 +10,11 @@ use Rattle.mem_model.specs.Operations.{cache_alloc, check, low_alloc, low_free}
 use Rattle.search_paths.specs.Mounts.{folder_mount}
 use Rattle.file_load.specs.Loads.{Loading, load_temp, temp_load}
 use Rattle.res_table.specs.declared.answers.AcquireError.TheVariants as error
-use Rattle.res_table.specs.declared.answers.Fault.TheVariants.{Unbuilt}
-use Rattle.res_table.specs.declared.kinds.Kind.TheVariants.{Alias, Sprite, Wad, Sound}
+use Rattle.res_table.specs.declared.kinds.Kind.TheVariants.{Brush, Alias, Sprite, Wad, Sound}
 use Rattle.res_table.specs.declared.kinds.Table.TheVariants.{Models, Sounds}
 use Rattle.res_table.specs.declared.slots.Loaded.{Loaded}
 use Rattle.res_table.specs.Acquire.{acquire, answered_after, answered_before}
+use Rattle.res_table.specs.Forgotten.{forgotten}
 use Rattle.res_table.specs.Held.{seen}
 use Rattle.res_table.specs.Images.{kind_of}
 use Rattle.res_table.specs.Loads.{made_of}
@@ -77,14 +78,14 @@ unfolding answered_before
 no_further_name = refl
 
 -- The kind of a model stands in its first four bytes. A file that is shorter than those is taken for a brush.
-kinds : (kind_of Models (codes "IDPO1") ≡ Ok Alias) × (kind_of Models (codes "IDSP") ≡ Ok Sprite) × (kind_of Models (codes "WAD2") ≡ Ok Wad)
+kinds : (kind_of Models (codes "IDPO1") ≡ Alias) × (kind_of Models (codes "IDSP") ≡ Sprite) × (kind_of Models (codes "WAD2") ≡ Wad)
 kinds = (refl, refl, refl)
 
-a_sound : kind_of Sounds (codes "IDSP") ≡ Ok Sound
+a_sound : kind_of Sounds (codes "IDSP") ≡ Sound
 a_sound = refl
 
-unbuilt : (kind_of Models (codes "IDP") ≡ Err Unbuilt) × (kind_of Models [] ≡ Err Unbuilt)
-unbuilt = (refl, refl)
+a_brush : (kind_of Models (codes "IDP") ≡ Brush) × (kind_of Models [] ≡ Brush)
+a_brush = (refl, refl)
 
 -- An arena with a zone alone, and the room behind it.
 abbrev arena : (room : ℕ) → Memory
@@ -106,10 +107,27 @@ with_cached = record (arena 4096) {
 }
 
 by_way_of_the_low_hunk : through_low (arena 4096) 3 (1 ∷ 2 ∷ 3 ∷ []) (codes "g") ≡ record { answer = Ok 49240; after = with_cached }
-unfolding through_low cached lowered low_alloc low_free with_low with_low_bytes over pushed_up up_in cache_alloc with_cache_bytes with_user_bytes with_new fit evictions
+unfolding through_low cached lowered low_alloc low_free with_low with_low_bytes over pushed_up up_in cache_alloc with_cache_bytes with_user_bytes with_fitted fit evictions
 by_way_of_the_low_hunk = refl
 
 -- Where the low block leaves too little room for that of the cache, it is freed again.
 no_room_for_both : through_low (arena 64) 3 (1 ∷ 2 ∷ 3 ∷ []) (codes "g") ≡ record { answer = Err (record { asked = 48; room = 32 }); after = arena 64 }
 unfolding through_low cached lowered low_alloc low_free with_low with_low_bytes over pushed_up up_in cache_alloc
 no_room_for_both = refl
+
+-- Two sprites, whose blocks begin at 49168 and at 49264. A level of 49264 keeps the first alone.
+abbrev sprite : ℕ → Loaded
+sprite place = record { kind = Sprite; size = 78; low = Some (record { 0 = place }) }
+
+abbrev sprites : Option Place → Resources
+sprites second = record {
+  speed = 11_025;
+  models = (codes "a.spr", sprite 49184) ∷ (codes "b.spr", record (sprite 0) { low = second }) ∷ [];
+  sounds = (codes "a.wav", sound 21) ∷ [];
+}
+
+a_level : forgotten 49264 (sprites (Some (record { 0 = 49280 }))) ≡ sprites None
+a_level = refl
+
+a_level_behind : forgotten 49265 (sprites (Some (record { 0 = 49280 }))) ≡ sprites (Some (record { 0 = 49280 }))
+a_level_behind = refl

@@ -124,11 +124,11 @@ pub held_kept : (mounts : List (Option Mount)) (t : Resources) (m n : Memory) �
 held_kept mounts t m n is kept = AreHeld-Keeps mounts t m n is (kept (lows_of t))
 
 -- The low places of a table in which a name was entered are those that it had, and the name's own.
-own_lows : (P : ℕ → Type 0) (low : Option Place) (rest : List ℕ) → IfSome low (λ place. P place.0) → All P rest → All P (low_of low ++ rest)
+pub own_lows : (P : ℕ → Type 0) (low : Option Place) (rest : List ℕ) → IfSome low (λ place. P place.0) → All P rest → All P (low_of low ++ rest)
 own_lows P None rest own all = all
 own_lows P (Some place) rest own all = All-cons P place.0 rest own all
 
-lows_parts : (P : ℕ → Type 0) (low : Option Place) (rest : List ℕ) → All P (low_of low ++ rest) → IfSome low (λ place. P place.0) × All P rest
+pub lows_parts : (P : ℕ → Type 0) (low : Option Place) (rest : List ℕ) → All P (low_of low ++ rest) → IfSome low (λ place. P place.0) × All P rest
 lows_parts P None rest all = (tt, all)
 lows_parts P (Some place) rest all = (All-head P place.0 rest all, All-tail P place.0 rest all)
 
@@ -163,12 +163,14 @@ by_table t Sounds Models rows slot at below within same apart = apart refl (λ e
 
 -- an image is in the cache, or needs no user's block
 in_cache_or : {P : Type 0} (kind : Kind) (place user : ℕ) → (low_at kind place ≡ None → P) → (users_for kind user ≡ [] → P) → P
+in_cache_or kind.Brush place user cached low = low refl
 in_cache_or kind.Alias place user cached low = cached refl
 in_cache_or kind.Sprite place user cached low = low refl
 in_cache_or kind.Wad place user cached low = low refl
 in_cache_or kind.Sound place user cached low = cached refl
 
 not_made : (kind : Kind) (own user : ℕ) → user ≢ own → ¬ Contains (users_for kind own) user
+not_made kind.Brush own user off = none_excepted user
 not_made kind.Alias own user off = not_excepted own user off
 not_made kind.Sprite own user off = none_excepted user
 not_made kind.Wad own user off = none_excepted user
@@ -189,10 +191,10 @@ there_if : {A : Type 0} (P : A → Type 0) (o : Option A) → IsSomeAnd o P → 
 there_if P None h = absurd h
 there_if P (Some a) h = h
 
-All-front : {X : Type 0} (P : X → Type 0) (xs ys : List X) → All P (xs ++ ys) → All P xs
+pub All-front : {X : Type 0} (P : X → Type 0) (xs ys : List X) → All P (xs ++ ys) → All P xs
 All-front P xs ys all k d below = All-contains P (xs ++ ys) _ all (Contains-append_left xs ys _ (All-contains_itself xs k d below))
 
-All-back : {X : Type 0} (P : X → Type 0) (xs ys : List X) → All P (xs ++ ys) → All P ys
+pub All-back : {X : Type 0} (P : X → Type 0) (xs ys : List X) → All P (xs ++ ys) → All P ys
 All-back P xs ys all k d below = All-contains P (xs ++ ys) _ all (Contains-append_right xs ys _ (All-contains_itself ys k d below))
 
 -- A resource was loaded for a name whose user had no block.

@@ -31,6 +31,7 @@ pub kept_but : {a b : Memory} (except : List ℕ) → KeepsAll [] a b → KeepsA
 kept_but except p = λ lows. Keeps-fewer (λ place in_table. in_table) (λ user is. absurd (none_excepted user is)) (p lows)
 
 pub kept_for : {a b : Memory} (kind : Kind) (user : ℕ) → KeepsAll (users_for kind user) a b → KeepsAll (user ∷ []) a b
+kept_for kind.Brush user p = kept_but (user ∷ []) p
 kept_for kind.Alias user p = p
 kept_for kind.Sprite user p = kept_but (user ∷ []) p
 kept_for kind.Wad user p = kept_but (user ∷ []) p

@@ -33,7 +33,7 @@ use Rattle.res_table.specs.declared.slots.Loaded.{Loaded}
 use Rattle.res_table.specs.Held.{IsImageOf}
 use Rattle.res_table.specs.Kept.{BeginsWith}
 use Rattle.res_table.specs.Images.{image_of, kind_of}
-use Rattle.res_table.specs.Loads.{IsMadeOf, Makes, from_bytes, from_image, made_of, new_res, sized, sized_as}
+use Rattle.res_table.specs.Loads.{IsMadeOf, Makes, from_image, made_of, new_res, sized, sized_as}
 use Rattle.res_table.specs.Placed.{GivesOrEnds, put_as}
 use Rattle.res_table.specs.Ready.{IsFree, IsReady, image_in}
 use Rattle.res_table.specs.Refusals.{load_refused, room_refused}
@@ -73,19 +73,18 @@ small_front m len laid = by (temp_bytes m) refl where
   by None is = omega (arith, length-take {A = ℕ} len [])
   by (Some bytes) is = source_small m bytes len laid is
 
--- An image that is to be made: the bytes have a kind, and an image.
-pub record IsSized (speed count : ℕ) (bytes : List ℕ) (kind : Result Kind Fault) (new : NewImage) : Type 0 where
+-- An image that is to be made: the bytes have one of their kind.
+pub record IsSized (speed count : ℕ) (bytes : List ℕ) (kind : Kind) (new : NewImage) : Type 0 where
   pub speed_is : new.builder.speed ≡ speed
-  pub kind_is : kind ≡ Ok new.builder.kind
+  pub kind_is : kind ≡ new.builder.kind
   pub count_is : new.length ≡ count
   pub image : List ℕ
   pub made_is : image_of new.builder.speed new.builder.kind bytes ≡ Ok image
   pub size : new.size ≡ length image
 
-pub is_sized : (speed count : ℕ) (bytes : List ℕ) (kind : Result Kind Fault) (new : NewImage) → Ok new ≡ sized_as speed count bytes kind → IsSized speed count bytes kind new
-is_sized speed count bytes (Err fault) new h = absurd (cc)
-is_sized speed count bytes (Ok kind) new h = by (image_of speed kind bytes) refl h where
-  by : (r : Result (List ℕ) Fault) → image_of speed kind bytes ≡ r → Ok new ≡ sized speed count kind r → IsSized speed count bytes (Ok kind) new
+pub is_sized : (speed count : ℕ) (bytes : List ℕ) (kind : Kind) (new : NewImage) → Ok new ≡ sized_as speed count bytes kind → IsSized speed count bytes kind new
+is_sized speed count bytes kind new h = by (image_of speed kind bytes) refl h where
+  by : (r : Result (List ℕ) Fault) → image_of speed kind bytes ≡ r → Ok new ≡ sized speed count kind r → IsSized speed count bytes kind new
   by (Err fault) is h = absurd (cc)
   by (Ok image) is h =
       let same : new ≡ record { builder = record { speed = speed; kind = kind }; length = count; size = length image } = cc in
@@ -93,7 +92,7 @@ is_sized speed count bytes (Ok kind) new h = by (image_of speed kind bytes) refl
       let kind_is : new.builder.kind ≡ kind = ap (λ (n : NewImage). n.builder.kind) same in
       record {
         speed_is = speed_is;
-        kind_is = ap (λ k. Ok k) (sym kind_is);
+        kind_is = sym kind_is;
         count_is = ap (λ (n : NewImage). n.length) same;
         image = image;
         made_is = rw (speed_is, kind_is) is;
@@ -101,7 +100,7 @@ is_sized speed count bytes (Ok kind) new h = by (image_of speed kind bytes) refl
       }
 
 -- it can be made
-pub is_ready : (m : Memory) (speed count : ℕ) (kind : Result Kind Fault) (new : NewImage) → Laid m → HasBytes (temp_bytes m) count
+pub is_ready : (m : Memory) (speed count : ℕ) (kind : Kind) (new : NewImage) → Laid m → HasBytes (temp_bytes m) count
     → Ok new ≡ sized_as speed count (front_of (temp_bytes m) count) kind → IsReady m new
 is_ready m speed count kind new laid has h =
     let is = is_sized speed count (front_of (temp_bytes m) count) kind new h in
@@ -148,7 +147,7 @@ module _ (speed : ℕ) (table : Table) (user : ℕ) (base : List ℕ) where
     abbrev source : List ℕ
     source = front_of (temp_bytes mid) len
 
-    is_made : (result : Result Res AcquireError) (new : Memory) → Answers (from_bytes mid speed user base source (kind_of table source)) result new
+    is_made : (result : Result Res AcquireError) (new : Memory) → Answers (from_image mid user base (kind_of table source) (image_of speed (kind_of table source) source)) result new
         → IsMadeOf make told result new
     unfolding made_of
     is_made result new given =
@@ -161,10 +160,8 @@ module _ (speed : ℕ) (table : Table) (user : ℕ) (base : List ℕ) where
     no_image fault kind (Err other) h = (let same : other ≡ fault = cc in record { answer = ap (λ (f : Fault). Err (why.Bad f)) same; after = refl })
 
     pub bad_image : (fault : Fault) → Err fault ≡ sized_as speed len source (kind_of table source) → Makes make told (Err (why.Bad fault)) mid
-    bad_image fault is = is_made (Err (why.Bad fault)) mid (by (kind_of table source) is) where
-      by : (k : Result Kind Fault) → Err fault ≡ sized_as speed len source k → Answers (from_bytes mid speed user base source k) (Err (why.Bad fault)) mid
-      by (Ok kind) h = no_image fault kind (image_of speed kind source) h
-      by (Err other) h = (let same : other ≡ fault = cc in record { answer = ap (λ (f : Fault). Err (why.Bad f)) same; after = refl })
+    bad_image fault is =
+        is_made (Err (why.Bad fault)) mid (no_image fault (kind_of table source) (image_of speed (kind_of table source) source) is)
 
     -- they have one
     module _ (made : NewImage) (is : Ok made ≡ sized_as speed len source (kind_of table source)) where
@@ -238,7 +235,7 @@ module _ (speed : ℕ) (table : Table) (file : List ℕ) (mounts : List (Option 
   abbrev kept_as : Loaded
   kept_as = record { kind = made.builder.kind; size = made.size; low = low }
 
-  image_at : (image rest : List ℕ) → kind_of table bytes_in ≡ Ok made.builder.kind → image_of speed made.builder.kind bytes_in ≡ Ok image → made.size ≡ length image
+  image_at : (image rest : List ℕ) → kind_of table bytes_in ≡ made.builder.kind → image_of speed made.builder.kind bytes_in ≡ Ok image → made.size ≡ length image
       → IsImageOf speed mounts table file kept_as (image ++ rest)
   image_at image rest kind is size =
       let front : take made.size (image ++ rest) ≡ image = ap (λ n. take n (image ++ rest)) size ∙ take-append_seam image rest in

@@ -1,31 +1,26 @@
 -- An image in a new low block, and the low hunk as it is freed again.
-use Rattle.std.proofs.Common.{◌≡◌, ℕ, ◌≤◌, List, [], ◌++◌, drop, replicate, length, Option, Some, None, Result, Ok, Err, refl, sym, ap, subst, ◌∙◌, arith}
-use Rattle.std.specs.Prelude.{IsOkAnd, IfOk, OnOk, Bool}
+use Rattle.std.proofs.Common.{◌≡◌, ℕ, List, [], ◌++◌, drop, replicate, length, Some, Result, Ok, Err, refl, sym, ap, ◌∙◌, arith}
+use Rattle.std.specs.Prelude.{IsOkAnd, IfOk, Bool}
 use Rattle.std.proofs.lemmas.List.{append_assoc, append-nil, length-replicate}
-use Rattle.std.proofs.Math.Seq.{take-append_seam}
-use Rattle.mem_model.specs.declared.answers.BadMark.{BadMark}
-use Rattle.mem_model.specs.declared.answers.Place.{Place}
 use Rattle.mem_model.specs.declared.answers.RoomError.{RoomError}
 use Rattle.mem_model.specs.declared.answers.RoomError.TheVariants as error
 use Rattle.mem_model.specs.Answer.{Answers, Gives}
 use Rattle.mem_model.specs.Blocks.{HunkBlock}
-use Rattle.mem_model.specs.Cache.{peek_bytes}
 use Rattle.mem_model.specs.Event.{Shortage}
 use Rattle.mem_model.specs.Hunk.{low_bytes, temp_bytes, with_low_bytes}
 use Rattle.mem_model.specs.Images.{HasBytes, front_of, image_size, with_image}
-use Rattle.mem_model.specs.Keeps.{Keeps, KeepsAll, beside_high, beside_low, held}
+use Rattle.mem_model.specs.Keeps.{Keeps, KeepsAll, beside_high, beside_low}
 use Rattle.mem_model.specs.Laid.{Laid, IsText}
-use Rattle.mem_model.specs.Memory.{Cache, Memory, low_used}
-use Rattle.mem_model.specs.Operations.{build_low, low_alloc, low_free}
+use Rattle.mem_model.specs.Memory.{Memory}
+use Rattle.mem_model.specs.Operations.{build_low, low_alloc}
 use Rattle.mem_model.specs.Places.{round_up}
-use Rattle.mem_model.specs.Told.{mark_answer, room_answer}
-use Rattle.mem_model.proofs.CacheLaws.{beside-build_low, beside-low_alloc, cache-low_free, keeps-low_free, users-low_free}
+use Rattle.mem_model.specs.Told.{room_answer}
+use Rattle.mem_model.proofs.CacheLaws.{beside-build_low, beside-low_alloc}
 use Rattle.mem_model.proofs.Keeping.{Keeps-all, Keeps-build_low, Keeps-low_alloc, Keeps-more, none_excepted}
-use Rattle.mem_model.proofs.Untouched.{zone-low_free}
-use Rattle.mem_model.proofs.Laws.{has-low_new, image_there, low-low_refused, low-new_built, low_bytes-build_low, low_bytes-built, low_bytes-inside, low_bytes-low_alloc, low_bytes-low_free, low_bytes-new, low_free-back, low_place_apart, temp_bytes-low_alloc}
+use Rattle.mem_model.proofs.Laws.{has-low_new, image_there, low-low_refused, low-new_built, low_bytes-build_low, low_bytes-built, low_bytes-low_alloc, low_bytes-new, low_place_apart, temp_bytes-low_alloc}
 use Rattle.res_table.specs.declared.answers.Fault.{Fault}
 use Rattle.res_table.specs.Kept.{BeginsWith, GrowsLow}
-use Rattle.res_table.specs.Placed.{GivesOrEnds, cached, lowered, through_low}
+use Rattle.res_table.specs.Placed.{GivesOrEnds, lowered, through_low}
 
 pub grows_same : (m n : Memory) → n.low ≡ m.low → GrowsLow m n
 grows_same m n same = ([], same ∙ sym (append-nil m.low))
@@ -153,77 +148,3 @@ module _ (m mid : Memory) (user : ℕ) (name : List ℕ) (frugal : Bool) where
   through_ended (Err fault) e gives = tt
   through_ended (Ok image) (error.NoRoom asked room) gives = through_refused _ image gives
   through_ended (Ok image) error.OutOfMemory gives = gives.not_frugal
-
-front_begins : (block : Option (List ℕ)) (image : List ℕ) (n : ℕ) → BeginsWith block image → length image ≡ n → front_of block n ≡ image
-front_begins block image n begins same = rw (begins.1, ← same) (take-append_seam image begins.0)
-
--- The low hunk is freed to where it ended before.
-module _ (m mid new : Memory) (laid : Laid m) (grows : GrowsLow m mid) (mark : ℕ) (is : mark ≡ low_used m) (result : Result (Unit {0}) BadMark)
-    (frees : Answers (low_free mid mark) (mark_answer result) new) where
-  back : ((low_free mid (low_used m)).answer ≡ Ok tt) × ((low_free mid (low_used m)).after.low ≡ m.low)
-  back = low_free-back mid m grows.0 laid grows.1
-
-  pub mark_is_good : result ≡ Ok tt
-  mark_is_good = by result (sym frees.answer ∙ ap (λ n. (low_free mid n).answer) is ∙ back.0) where
-    by : (r : Result (Unit {0}) BadMark) → mark_answer r ≡ Ok tt → r ≡ Ok tt
-    by (Ok done) h = refl
-    by (Err bad) h = absurd (cc)
-
-  pub low_again : new.low ≡ m.low
-  low_again = ap (λ (n : Memory). n.low) frees.after ∙ ap (λ n. (low_free mid n).after.low) is ∙ back.1
-
-  pub kept_freed : {except : List ℕ} → Laid mid → KeepsAll except m mid → KeepsAll except m new
-  kept_freed {except} laid_mid kept = λ lows.
-      let one : Keeps lows except m mid = kept lows in
-      record {
-        low = λ place bytes in_table h.
-            let below : place ≤ mark = omega (arith, is, low_bytes-inside m place bytes laid h) in
-            ap (λ (n : Memory). low_bytes n place) frees.after ∙ low_bytes-low_free mid mark place bytes (one.low place bytes in_table h) below;
-        users = λ user b other h. one.users user b other ((keeps-low_free mid mark laid_mid).others user b tt (ap (λ (n : Memory). held n.cache user) (sym frees.after) ∙ h));
-        count = ap (λ (n : Memory). n.users) frees.after ∙ users-low_free mid mark ∙ one.count;
-      }
-
-  pub zone_again : (low : Memory) → mid.zone ≡ low.zone → beside_low low ≡ beside_low m → new.zone ≡ m.zone
-  zone_again low same beside = ap (λ (n : Memory). n.zone) frees.after ∙ zone-low_free mid mark ∙ same ∙ ap (λ (n : Memory). n.zone) beside
-
--- What was copied from it is in the cache still.
-module _ (m mid copied new : Memory) (user size low mark : ℕ) (name : List ℕ) (frugal : Bool) (r : Result (List ℕ) Fault) (made : Result Place RoomError) (result : Result (Unit {0}) BadMark)
-    (sized : image_size r ≡ Ok size) (begins : IfOk r (BeginsWith (low_bytes mid low))) (frees : Answers (low_free copied mark) (mark_answer result) new) where
-  same_front : (P : List ℕ → Type 0) → P (front_of (low_bytes mid low) size) → IfOk r P
-  same_front P there = by r sized begins where
-    by : (r : Result (List ℕ) Fault) → image_size r ≡ Ok size → IfOk r (BeginsWith (low_bytes mid low)) → IfOk r P
-    by (Err fault) sized begins = tt
-    by (Ok image) sized begins =
-        let same : length image ≡ size = cc in
-        subst P (front_begins (low_bytes mid low) image size begins same) there
-
-  pub begins_copied : OnOk made (BeginsWith (peek_bytes copied.cache user) (front_of (low_bytes mid low) size)) → OnOk made (IfOk r (BeginsWith (peek_bytes new.cache user)))
-  begins_copied is = by made is where
-    stays : peek_bytes copied.cache user ≡ peek_bytes new.cache user
-    stays = ap (λ (c : Cache). peek_bytes c user) (sym (cache-low_free copied mark)) ∙ ap (λ (n : Memory). peek_bytes n.cache user) (sym frees.after)
-
-    by : (made : Result Place RoomError) → OnOk made (BeginsWith (peek_bytes copied.cache user) (front_of (low_bytes mid low) size))
-        → OnOk made (IfOk r (BeginsWith (peek_bytes new.cache user)))
-    by (Err e) is = tt
-    by (Ok place) is = same_front (BeginsWith (peek_bytes new.cache user)) (subst (λ (o : Option (List ℕ)). BeginsWith o (front_of (low_bytes mid low) size)) stays is)
-
-  through_made : (image : List ℕ) → Answers (lowered m image name) (Ok low) mid → (reply : Option (Result ℕ Shortage)) → Gives (cached mid user image name) frugal mid reply copied
-      → mark ≡ low_used m → GivesOrEnds (through_low m user image name) frugal reply new
-  unfolding through_low
-  through_made image lowers None gives is = gives.not_frugal
-  through_made image lowers (Some reply) gives is =
-      rw (lowers.answer, ← lowers.after) (record {
-        answer = gives.answer;
-        after = frees.after ∙ ap (λ (n : Memory). (low_free n mark).after) gives.after ∙ ap (λ n. (low_free (cached mid user image name).after n).after) is;
-      })
-
-  pub through_gives : IfOk r (λ image. Answers (lowered m image name) (Ok low) mid) → Gives (cached mid user (front_of (low_bytes mid low) size) name) frugal mid (room_answer made) copied
-      → mark ≡ low_used m → IfOk r (λ image. GivesOrEnds (through_low m user image name) frugal (room_answer made) new)
-  through_gives lowers gives is = by r sized begins lowers where
-    by : (r : Result (List ℕ) Fault) → image_size r ≡ Ok size → IfOk r (BeginsWith (low_bytes mid low)) → IfOk r (λ image. Answers (lowered m image name) (Ok low) mid)
-        → IfOk r (λ image. GivesOrEnds (through_low m user image name) frugal (room_answer made) new)
-    by (Err fault) sized begins lowers = tt
-    by (Ok image) sized begins lowers =
-        let same : length image ≡ size = cc in
-        let front = front_begins (low_bytes mid low) image size begins same in
-        through_made image lowers (room_answer made) (subst (λ (text : List ℕ). Gives (cached mid user text name) frugal mid (room_answer made) copied) front gives) is

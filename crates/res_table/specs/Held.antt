@@ -48,7 +48,7 @@ pub record IsImageOf (speed : ℕ) (mounts : List (Option Mount)) (table : Table
     (bytes : List ℕ) : Type 0 where
   pub source : List ℕ
   pub small : length source ≤ 2 ^ 26
-  pub kind : kind_of table source ≡ Ok loaded.kind
+  pub kind : kind_of table source ≡ loaded.kind
   pub image : image_of speed loaded.kind source ≡ Ok (take loaded.size bytes)
   pub fits : loaded.size ≤ length bytes
   pub told : IfSome (find_told file mounts) (λ found. sought found ≡ Ok source)

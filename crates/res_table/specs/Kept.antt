@@ -9,6 +9,7 @@ use Rattle.res_table.specs.declared.kinds.Kind.TheVariants as kind
 
 -- the user that an image of this kind needs a block for
 abbrev pub users_for : Kind → (user : ℕ) → List ℕ
+users_for kind.Brush user = []
 users_for kind.Alias user = user ∷ []
 users_for kind.Sprite user = []
 users_for kind.Wad user = []

@@ -1,5 +1,6 @@
 pub mod Tables
 pub mod Resources
+pub mod Forgotten
 pub mod Refusals
 pub mod Faults
 pub mod Calls

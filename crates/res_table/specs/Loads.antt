@@ -21,10 +21,9 @@ module _ (speed count : ℕ) where
       Ok (record { builder = record { speed = speed; kind = kind }; length = count; size = length image })
   sized kind (Err fault) = Err fault
 
-  -- the same of bytes, where they have a kind
-  abbrev pub sized_as : (bytes : List ℕ) → Result Kind Fault → Result NewImage Fault
-  sized_as bytes (Ok kind) = sized kind (image_of speed kind bytes)
-  sized_as bytes (Err fault) = Err fault
+  -- the same of bytes that are of this kind
+  abbrev pub sized_as : (bytes : List ℕ) → Kind → Result NewImage Fault
+  sized_as bytes kind = sized kind (image_of speed kind bytes)
 
 abbrev pub out_of_room : Shortage → AcquireError
 out_of_room shortage = error.NoRoom shortage.asked shortage.room
@@ -43,18 +42,13 @@ from_image m user base kind (Ok image) = record {
 }
 from_image m user base kind (Err fault) = record { answer = Err (error.Bad fault); after = m }
 
--- Bytes are made into an image, where they have a kind.
-abbrev pub from_bytes : Memory → (speed user : ℕ) → (base bytes : List ℕ) → Result Kind Fault
-    → Answered (Result Res AcquireError)
-from_bytes m speed user base bytes (Ok kind) = from_image m user base kind (image_of speed kind bytes)
-from_bytes m speed user base bytes (Err fault) = record { answer = Err (error.Bad fault); after = m }
-
 module _ (speed : ℕ) (table : Table) (user : ℕ) (base : List ℕ) where
   abbrev pub from_load : Memory → Load → Answered (Result Res AcquireError)
   from_load m Missing = record { answer = Err error.NotFound; after = m }
   from_load m (Beyond end whole) = record { answer = Err (error.BeyondPack end whole); after = m }
   from_load m (NoRoom shortage) = record { answer = Err (out_of_room shortage); after = m }
-  from_load m (At place bytes) = from_bytes m speed user base bytes (kind_of table bytes)
+  from_load m (At place bytes) =
+      from_image m user base (kind_of table bytes) (image_of speed (kind_of table bytes) bytes)
 
   -- The resource of a file that was loaded, or why there is none.
   unfoldable pub made_of : Loading → Answered (Result Res AcquireError)

@@ -51,6 +51,7 @@ through_low m user image name =
 
 -- an image of each kind, put where it belongs
 abbrev pub put_as : Kind → Memory → (user : ℕ) → (image name : List ℕ) → Answered (Result ℕ Shortage)
+put_as kind.Brush m user image name = lowered m image name
 put_as kind.Alias m user image name = through_low m user image name
 put_as kind.Sprite m user image name = lowered m image name
 put_as kind.Wad m user image name = lowered m image name
@@ -58,6 +59,7 @@ put_as kind.Sound m user image name = cached m user image name
 
 -- the low place of an image, where it isn't in the cache
 abbrev pub low_at : Kind → (place : ℕ) → Option Place
+low_at kind.Brush place = Some (record { 0 = place })
 low_at kind.Alias place = None
 low_at kind.Sprite place = Some (record { 0 = place })
 low_at kind.Wad place = Some (record { 0 = place })

@@ -1,6 +1,7 @@
 // What is answered when a resource is acquired.
 use crate::kinds::Kind;
 use alias_load::AliasFault;
+use bsp29_tables::BspFault;
 use file_load::LoadError;
 use mem_model::RoomError;
 use sprite_load::SpriteFault;
@@ -10,6 +11,8 @@ use wav_load::WavFault;
 /// Why the bytes of a file are no resource.
 #[derive(Clone, Copy, Debug, PartialEq, Eq)]
 pub enum Fault {
+    /// They are no brush model. Those that begin as no other model are taken for one.
+    Brush(BspFault),
     /// They are no alias model.
     Alias(AliasFault),
     /// They are no sprite.
@@ -18,8 +21,6 @@ pub enum Fault {
     Sound(WavFault),
     /// They are no wad.
     Wad(WadFault),
-    /// They begin as none of those models, so they are taken for a brush, and brushes aren't built.
-    Unbuilt,
 }
 
 /// A resource that is there.

@@ -4,6 +4,7 @@ ghost use Rattle.res_table.specs.Images.{image_of, told_by};
 use crate::answers::Fault;
 use crate::kinds::Kind;
 use alias_load::AliasBuilder;
+use bsp29_build::BspBuilder;
 use mem_model::Builder;
 use sprite_load::SpriteBuilder;
 use wad2_lumps::WadBuilder;
@@ -34,6 +35,7 @@ impl Builder for ImageBuilder {
 
     fn size(&self, source: &[u8]) -> Result<u64, Fault> {
         match self.kind {
+            Kind::Brush => BspBuilder.size(source).map_err(Fault::Brush),
             Kind::Alias => AliasBuilder.size(source).map_err(Fault::Alias),
             Kind::Sprite => SpriteBuilder.size(source).map_err(Fault::Sprite),
             Kind::Wad => WadBuilder.size(source).map_err(Fault::Wad),
@@ -45,6 +47,7 @@ impl Builder for ImageBuilder {
 
     fn build(&self, source: &[u8], block: &mut [u8]) {
         match self.kind {
+            Kind::Brush => BspBuilder.build(source, block),
             Kind::Alias => AliasBuilder.build(source, block),
             Kind::Sprite => SpriteBuilder.build(source, block),
             Kind::Wad => WadBuilder.build(source, block),

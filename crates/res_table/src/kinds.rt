@@ -5,13 +5,14 @@ ghost use Rattle.res_table.specs.Images.{HasFileName, file_of, kind_of, model_ki
 ghost use Rattle.res_table.specs.Placed.{low_at};
 ghost use Rattle.res_table.specs.Tables.{most_of, user_of};
 
-use crate::answers::Fault;
 use base_fields::{GameName, joined};
 use mem_model::Place;
 
 /// What a resource is.
 #[derive(Clone, Copy, Debug, PartialEq, Eq)]
 pub enum Kind {
+    /// A brush model, on the low hunk.
+    Brush,
     /// An alias model, in the cache.
     Alias,
     /// A sprite, on the low hunk.
@@ -28,7 +29,7 @@ impl Kind {
         ensures { result ≡ low_at self place.0 }
     {
         match self {
-            Kind::Sprite | Kind::Wad => Some(place),
+            Kind::Brush | Kind::Sprite | Kind::Wad => Some(place),
             Kind::Alias | Kind::Sound => None,
         }
     }
@@ -91,28 +92,27 @@ impl Table {
     }
 
     // What the bytes of a file are made into.
-    pub(crate) fn kind(self, source: &[u8]) -> Result<Kind, Fault>
+    pub(crate) fn kind(self, source: &[u8]) -> Kind
         ensures { result ≡ kind_of self source.now }
     {
         match self {
             Table::Models => model_kind(source),
-            Table::Sounds => Ok(Kind::Sound),
+            Table::Sounds => Kind::Sound,
         }
     }
 }
 
-// A model is known by its first four bytes.
-fn model_kind(source: &[u8]) -> Result<Kind, Fault>
+// A model is known by its first four bytes, and a brush by having none of these.
+fn model_kind(source: &[u8]) -> Kind
     ensures { result ≡ model_kind source.now }
 {
     if source.starts_with(b"IDPO") {
-        return Ok(Kind::Alias);
+        Kind::Alias
+    } else if source.starts_with(b"IDSP") {
+        Kind::Sprite
+    } else if source.starts_with(b"WAD2") {
+        Kind::Wad
+    } else {
+        Kind::Brush
     }
-    if source.starts_with(b"IDSP") {
-        return Ok(Kind::Sprite);
-    }
-    if source.starts_with(b"WAD2") {
-        return Ok(Kind::Wad);
-    }
-    Err(Fault::Unbuilt)
 }

@@ -39,7 +39,7 @@ fn image_of<M: Store>(store: &M, speed: u32, table: Table, length: usize) -> Res
         (kind_of table (front_of (temp_bytes (M.state store.now)) length)) }
 {
     let source = &store.temp_bytes().unwrap()[..length];
-    let kind = table.kind(source)?;
+    let kind = table.kind(source);
     let builder = ImageBuilder { speed, kind };
     let size = builder.size(source)? as u32;
     Ok(NewImage {
@@ -67,12 +67,13 @@ fn build_image<M: Store>(
     ensures keeps { KeepsAll (made_for (users_for image.now.builder.kind user) result) (M.state store.old)
         (M.state store.new) }
     ensures low { GrowsLow (M.state store.old) (M.state store.new) }
+    ensures refused { IfErr result (λ _. (M.state store.new).low ≡ (M.state store.old).low) }
     ensures zone { (M.state store.new).zone ≡ (M.state store.old).zone }
     ensures laid { Laid (M.state store.new) }
 {
     match image.builder.kind {
         Kind::Alias => build_through_low(store, user, image, name),
-        Kind::Sprite | Kind::Wad => build_lowered(store, image, name),
+        Kind::Brush | Kind::Sprite | Kind::Wad => build_lowered(store, image, name),
         Kind::Sound => build_cached(store, user, image, name),
     }
 }
@@ -94,6 +95,7 @@ pub(crate) fn load<M: Store, F: Folder>(
         (IsImageOf speed (told_mounts F.files paths.old) table file.now (loaded_of res))) }
     ensures keeps { KeepsAll (loaded_for user result) (M.state store.old) (M.state store.new) }
     ensures low { GrowsLow (M.state store.old) (M.state store.new) }
+    ensures refused { IfErr result (λ _. (M.state store.new).low ≡ (M.state store.old).low) }
     ensures zone { (M.state store.new).zone ≡ (M.state store.old).zone }
     ensures fresh { IfOk result (λ res. res.loaded ≡ true) }
     ensures memory { IsErrOf result AcquireError.OutOfMemory → M.frugal ≡ false }

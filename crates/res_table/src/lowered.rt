@@ -1,17 +1,18 @@
 // An image on the low hunk, and one that is put into the cache by way of it.
-ghost use Rattle.std.specs.Prelude.{◌≡◌, [], ◌∷◌, IfOk, IfErr, OnOk};
+ghost use Rattle.std.specs.Prelude.{◌≡◌, ◌+◌, [], ◌∷◌, IfOk, IfErr, OnOk};
 ghost use Rattle.mem_model.specs.Answer.{Gives};
 ghost use Rattle.mem_model.specs.Cache.{peek_bytes};
 ghost use Rattle.mem_model.specs.Hunk.{low_bytes};
 ghost use Rattle.mem_model.specs.Keeps.{KeepsAll, beside_low};
 ghost use Rattle.mem_model.specs.Laid.{IsText, Laid};
+ghost use Rattle.mem_model.specs.Memory.{low_used};
 ghost use Rattle.mem_model.specs.Told.{room_answer};
 ghost use Rattle.res_table.specs.Kept.{BeginsWith, GrowsLow, made_for};
 ghost use Rattle.res_table.specs.Placed.{GivesOrEnds, lowered, through_low};
 ghost use Rattle.res_table.specs.Ready.{IsFree, IsReady, image_in};
 
 use crate::builder::NewImage;
-use crate::cached::copy_cached;
+use crate::cached::move_block;
 use mem_model::{Place, RoomError, Store};
 
 // Builds the image in a new low block.
@@ -27,6 +28,7 @@ pub(crate) fn build_lowered<M: Store>(
         (M.state store.new)) }
     ensures built { IfOk result (λ place. IfOk (image_in (M.state store.old) image.now)
         (BeginsWith (low_bytes (M.state store.new) place.0))) }
+    ensures place { IfOk result (λ place. place.0 ≡ low_used (M.state store.old) + 16) }
     ensures keeps { KeepsAll [] (M.state store.old) (M.state store.new) }
     ensures low { GrowsLow (M.state store.old) (M.state store.new) }
     ensures refused { IfErr result (λ _. (M.state store.new).low ≡ (M.state store.old).low) }
@@ -38,7 +40,7 @@ pub(crate) fn build_lowered<M: Store>(
     Ok(place)
 }
 
-// Builds the image in a low block, copies it into a new block of a user that has none, and frees the low block.
+// Builds the image in a low block, and moves it to a new block of a user that has none.
 pub(crate) fn build_through_low<M: Store>(
     store: &mut M,
     user: u32,
@@ -59,8 +61,7 @@ pub(crate) fn build_through_low<M: Store>(
     ensures laid { Laid (M.state store.new) }
 {
     let mark = store.low_mark();
-    let low = build_lowered(store, image, name)?;
-    let made = copy_cached(store, user, low, image.size, name);
-    store.low_free(mark).unwrap();
-    made
+    build_lowered(store, image, name)?;
+    move_block(store, mark, user, image.size, name)?;
+    Ok(store.peek_place(user).unwrap())
 }

@@ -1,7 +1,8 @@
 // The names of one table.
-ghost use Rattle.std.specs.Prelude.{◌≡◌, ◌<◌, ◌++◌, ◌∷◌, [], IfOk, IfSome, None, length, nat_lt};
+ghost use Rattle.std.specs.Prelude.{◌≡◌, ◌<◌, ◌++◌, ◌∷◌, [], IfOk, IfSome, None, length, nat_lt, slice_get};
 ghost use Rattle.indexmap.specs.IndexMap.{set_value_at};
 ghost use Rattle.res_table.specs.Acquire.{loaded_of};
+ghost use Rattle.res_table.specs.Forgotten.{left_below, rows_below};
 ghost use Rattle.res_table.specs.Tables.{entered, found_in, slot_for, slot_of};
 
 use crate::answers::Res;
@@ -20,6 +21,22 @@ pub(crate) struct Loaded {
     pub(crate) size: u32,
     /// The place of the image, where it lies on the low hunk and not in the cache.
     pub(crate) low: Option<Place>,
+}
+
+// How many bytes before its place the header of a low block begins.
+const HEADER: u32 = 16;
+
+impl Loaded {
+    // What is left of it where the low hunk is freed to a level.
+    fn left_below(&self, level: u32) -> Loaded
+        ensures { result ≡ left_below level self.now }
+    {
+        let low = match self.low {
+            Some(place) if place.0.saturating_sub(HEADER) < level => Some(place),
+            _ => None,
+        };
+        Loaded { low, ..*self }
+    }
 }
 
 // What is kept of a resource that was loaded.
@@ -116,5 +133,25 @@ impl Slots {
         ensures { self.new ≡ record self.old { rows = set_value_at self.old.rows slot loaded } }
     {
         *self.names.get_index_mut(slot).unwrap() = loaded;
+    }
+
+    // What is left of each where the low hunk is freed to a level.
+    pub(crate) fn forget_low(&mut self, level: u32)
+        ensures { self.new ≡ record self.old { rows = rows_below level self.old.rows } }
+    {
+        for slot in 0..self.names.len() {
+            self.forget_slot(slot, level);
+        }
+    }
+
+    // The same of the name of a slot.
+    fn forget_slot(&mut self, slot: usize, level: u32)
+        requires { slot < length self.old.rows }
+        ensures { IfSome (slice_get self.old.rows slot) (λ row.
+            self.new ≡ record self.old { rows = set_value_at self.old.rows slot (left_below level row.1) }) }
+    {
+        let (_, loaded) = self.names.get_index(slot).unwrap();
+        let left = loaded.left_below(level);
+        self.set(slot, left);
     }
 }

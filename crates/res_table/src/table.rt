@@ -9,6 +9,7 @@ ghost use Rattle.file_load.specs.Loads.{load_temp};
 ghost use Rattle.res_table.specs.Acquire.{acquire, answered_before, before_of, table_after, Acquires};
 ghost use Rattle.res_table.specs.Calls.{AsksOnce};
 ghost use Rattle.res_table.specs.Faults.{IsAcquireFault};
+ghost use Rattle.res_table.specs.Forgotten.{forgotten};
 ghost use Rattle.res_table.specs.Held.{AreHeld, AreThere, seen};
 ghost use Rattle.res_table.specs.Images.{HasFileName, IsImage, file_of};
 ghost use Rattle.res_table.specs.Kept.{GrowsLow};
@@ -119,7 +120,7 @@ impl ResTable {
     /// of the cache with the base of the file's name. The name enters the table with its first load.
     ///
     /// The errors come in this order: `TableFull`, those of the load of the file, `Bad`, and `NoRoom` or `OutOfMemory` of
-    /// the cache. Each leaves the table as it was.
+    /// the cache. Each leaves the table and the low hunk as they were.
     pub fn acquire<M: Store, F: Folder>(
         &mut self,
         store: &mut M,
@@ -144,6 +145,7 @@ impl ResTable {
         ensures keeps { KeepsAll (user_of table (slot_for name.now (rows_in self.old table)) ∷ []) (M.state store.old)
             (M.state store.new) }
         ensures low { GrowsLow (M.state store.old) (M.state store.new) }
+        ensures refused { IfErr result (λ _. (M.state store.new).low ≡ (M.state store.old).low) }
         ensures zone { (M.state store.new).zone ≡ (M.state store.old).zone }
         ensures table { self.new ≡ table_after self.old table name.now result }
         ensures memory { IsErrOf result AcquireError.OutOfMemory → M.frugal ≡ false }
@@ -166,6 +168,15 @@ impl ResTable {
         let res = load(store, paths, self.speed(), table, user, &table.file(name))?;
         self.enter(table, name, loaded_of(&res));
         Ok(res)
+    }
+
+    /// Forgets what a freeing of the low hunk to a level takes away: a resource is absent from now on where the header
+    /// of its low block, 16 bytes before its place, lies at or above the level. Each name keeps its slot.
+    pub fn forget_low(&mut self, level: u32)
+        ensures { self.new ≡ forgotten level self.old }
+    {
+        self.models.forget_low(level);
+        self.sounds.forget_low(level);
     }
 
     /// The kind and the image of the resource of a name, which is no use of it: `None` exactly where the name isn't in the

@@ -7,6 +7,7 @@ ghost use Rattle.res_table.specs.Held.{AreHeld, AreThere};
 
 use super::*;
 use base_fields::game_name;
+use bsp29_tables::BspFault;
 use mem_model::{PlainStore, Store};
 use outside_io::{Folder, MemFile, MemFolder};
 use search_paths::{MountError, Paths};
@@ -41,10 +42,22 @@ fn alias(alloc: Global) -> Result<Vec<u8>, AllocError> {
     Ok(bytes)
 }
 
+// A map of one model and nothing else: 188 bytes, and 196 of its image.
+fn map(alloc: Global) -> Result<Vec<u8>, AllocError> {
+    let mut bytes = Vec::from_slice(alloc, &[29])?;
+    bytes.extend_from_slice(&[0; 115])?;
+    bytes.extend_from_slice(b"\x7c\0\0\0\x40\0\0\0")?;
+    bytes.extend_from_slice(&[0; 64])?;
+    Ok(bytes)
+}
+
 // A model, where the name is that of one.
 fn model(alloc: Global, name: &[u8]) -> Result<Option<Vec<u8>>, AllocError> {
     if name == b"g.mdl".as_slice() {
         return Ok(Some(alias(alloc)?));
+    }
+    if name == b"m.bsp".as_slice() {
+        return Ok(Some(map(alloc)?));
     }
     let text: &[u8] = if name == b"p.spr".as_slice() {
         SPRITE
@@ -76,9 +89,9 @@ fn file(alloc: Global, name: &[u8], samples: usize) -> Result<Vec<u8>, AllocErro
     Ok(bytes)
 }
 
-// A folder of six sounds, those two and five models, whose call of this number fails.
+// A folder of six sounds, those two and six models, whose call of this number fails.
 fn folder(alloc: Global, samples: usize, fails: u64) -> Result<MemFolder, AllocError> {
-    let names: [&[u8]; 13] = [
+    let names: [&[u8]; 14] = [
         b"sound/s0.wav",
         b"sound/s1.wav",
         b"sound/s2.wav",
@@ -91,6 +104,7 @@ fn folder(alloc: Global, samples: usize, fails: u64) -> Result<MemFolder, AllocE
         b"p.spr",
         b"w.wad",
         b"v.wad",
+        b"m.bsp",
         b"x.bsp",
     ];
     let mut held = Vec::new(alloc);
@@ -256,11 +270,11 @@ fn a_sound_needs_room_beside_its_file(rt: HostRuntime) -> Result<(), Fail> {
 }
 
 // The image of the alias is built in a low block of 208 bytes, its block in the cache stands behind that, and then the low
-// block is free again.
+// block is free again. The low block of the map needs that place, so that the alias moves behind itself.
 #[test]
 fn a_model_goes_where_its_kind_belongs(rt: HostRuntime) -> Result<(), Fail> {
     let alloc = rt.alloc();
-    let cases: [(&[u8], Result<Res, AcquireError>); 9] = [
+    let cases: [(&[u8], Result<Res, AcquireError>); 11] = [
         (b"g.mdl", there(Kind::Alias, 49_416, 188, true)),
         (b"p.spr", there(Kind::Sprite, 49_184, 78, true)),
         (b"w.wad", there(Kind::Wad, 49_280, 12, true)),
@@ -268,11 +282,16 @@ fn a_model_goes_where_its_kind_belongs(rt: HostRuntime) -> Result<(), Fail> {
             b"v.wad",
             Err(AcquireError::Bad(Fault::Wad(WadFault::NotWad))),
         ),
-        (b"x.bsp", Err(AcquireError::Bad(Fault::Unbuilt))),
+        (b"m.bsp", there(Kind::Brush, 49_312, 196, true)),
+        (
+            b"x.bsp",
+            Err(AcquireError::Bad(Fault::Brush(BspFault::Short))),
+        ),
         (b"none.mdl", Err(AcquireError::NotFound)),
-        (b"g.mdl", there(Kind::Alias, 49_416, 188, false)),
+        (b"g.mdl", there(Kind::Alias, 49_656, 188, false)),
         (b"p.spr", there(Kind::Sprite, 49_184, 78, false)),
         (b"w.wad", there(Kind::Wad, 49_280, 12, false)),
+        (b"m.bsp", there(Kind::Brush, 49_312, 196, false)),
     ];
     assert_eq!(rt;
         first_wrong_in(alloc, 1_048_576, 0, 99, Table::Models, &cases)?,
@@ -352,6 +371,44 @@ fn what_is_there_is_seen(rt: HostRuntime) -> Result<(), Fail> {
         first_unlike(&mut table, &mut store, &mut paths, &cases),
         None
     );
+    Ok(())
+}
+
+// Acquires a sprite and then a wad, and after the low hunk was freed to where the sprite ends, both again.
+fn freed_between<M: Store, F: Folder>(
+    table: &mut ResTable,
+    store: &mut M,
+    paths: &mut Paths<F>,
+) -> [Result<Res, AcquireError>; 4]
+    requires { AreHeld (told_mounts F.files paths.old) table.old (M.state store.old) }
+{
+    let sprite = ask(table, store, paths, Table::Models, b"p.spr");
+    let level = store.low_mark();
+    let wad = ask(table, store, paths, Table::Models, b"w.wad");
+    let _ = store.size();
+    let _ = store.low_free(level);
+    table.forget_low(level);
+    [
+        sprite,
+        wad,
+        ask(table, store, paths, Table::Models, b"p.spr"),
+        ask(table, store, paths, Table::Models, b"w.wad"),
+    ]
+}
+
+#[test]
+fn what_lay_above_a_level_is_loaded_again(rt: HostRuntime) -> Result<(), Fail> {
+    let alloc = rt.alloc();
+    let mut store = PlainStore::create(alloc, 1_048_576, ZONE, 768)?;
+    let mut table = ResTable::create(alloc, 11_025)?;
+    let mut paths = path(alloc, folder(alloc, 0, 99)?)??;
+    let answers = [
+        there(Kind::Sprite, 49_184, 78, true),
+        there(Kind::Wad, 49_280, 12, true),
+        there(Kind::Sprite, 49_184, 78, false),
+        there(Kind::Wad, 49_280, 12, true),
+    ];
+    assert_eq!(rt; freed_between(&mut table, &mut store, &mut paths), answers);
     Ok(())
 }
 

@@ -1,5 +1,6 @@
 use Rattle.std.proofs.Common.{refl}
 use Rattle.std.proofs.lemmas.Result.{err_from_is_err_and}
+use Rattle.mem_model.proofs.Laws.{low-low_alloc}
 use Rattle.res_table.specs.Images.{image_of}
 use Rattle.res_table.proofs.Lowering.{beside_ended, beside_lowered, front-lowered, grows_lowered, grows_same, image-lowered, kept_ended, kept_lowered, low_ended, lowered_ended, lowered_for, source-lowered}
 use Rattle.res_table.proofs.lowered.build_lowered.Goals as goal
@@ -59,3 +60,6 @@ pub returns-clause-beside : goal.returns-clause-beside
 returns-clause-beside g c =
     beside_lowered _ _ c.args.image.now.size c.in_ok-place.place.0 c.args.name.now c.low_alloc.ensures.was_laid c.in_ok-place.ensures.gives _
     (image_of c.args.image.now.builder.speed c.args.image.now.builder.kind) c.args.image.now.length c.build_low.ensures.gives
+
+pub returns-clause-place : goal.returns-clause-place
+returns-clause-place g c = (low-low_alloc _ c.args.image.now.size c.in_ok-place.place.0 c.args.name.now c.in_ok-place.ensures.gives.answer).1
