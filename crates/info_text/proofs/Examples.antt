@@ -8,6 +8,7 @@ use Rattle.base_fields.specs.Fields.{u32_in, u32_bytes}
 use Rattle.res_table.specs.declared.answers.Fault.TheVariants as fault
 use Rattle.res_table.specs.declared.kinds.Kind.TheVariants as kind
 use Rattle.sprite_load.specs.declared.fault.SpriteFault.TheVariants as sprite
+use Rattle.bsp29_tables.specs.declared.fault.BspFault.TheVariants as brush_fault
 use Rattle.wad2_lumps.specs.declared.fault.WadFault.TheVariants as wad_fault
 use Rattle.info_text.specs.declared.lump_errors.LumpError.TheVariants as error
 use Rattle.info_text.specs.Dumps.{dump_text}
@@ -127,8 +128,8 @@ a_size : bad_text (codes "x.spr") (fault.Sprite (sprite.Size 10)) ≡ codes "bad
 unfolding digits
 a_size = refl
 
-not_built : bad_text (codes "x.lmp") fault.Unbuilt ≡ codes "bad brush x.lmp: not built\n"
-not_built = refl
+short : bad_text (codes "x.lmp") (fault.Brush brush_fault.Short) ≡ codes "bad brush x.lmp: short\n"
+short = refl
 
 table_outside : bad_text (codes "w.wad") (fault.Wad wad_fault.TableOutside) ≡ codes "bad wad w.wad: table outside\n"
 table_outside = refl

@@ -2,6 +2,8 @@
 use Rattle.std.proofs.Common.{◌≡◌, ℕ, ◌≤◌, List, length, Result, Ok, Err, arith}
 use Rattle.alias_load.specs.Images.{image_of as alias_of}
 use Rattle.alias_load.proofs.ImageLaws.{length_of_image as length_of_alias}
+use Rattle.bsp29_build.specs.Images.{image_of as brush_of}
+use Rattle.bsp29_build.specs.Readers.{IsBrush}
 use Rattle.res_table.specs.declared.answers.Fault.{Fault}
 use Rattle.res_table.specs.declared.answers.Fault.TheVariants as fault
 use Rattle.res_table.specs.declared.kinds.Kind.TheVariants as kind
@@ -19,6 +21,10 @@ made_of : {F : Type 0} (tell : F → Fault) (made : Result (List ℕ) F) (image 
     → made ≡ Ok image
 made_of tell (Ok bytes) image told = cc
 made_of tell (Err wrong) image told = absurd (cc)
+
+-- the image of a brush model is one of some file
+pub brush_is : (image : List ℕ) → IsImage kind.Brush image → IsBrush image
+brush_is image is = record { file = is.source; is = made_of fault.Brush (brush_of is.source) image is.image }
 
 -- the image of an alias model has a header of 88 bytes
 pub alias_long : (image : List ℕ) → IsImage kind.Alias image → 88 ≤ length image

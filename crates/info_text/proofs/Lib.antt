@@ -4,3 +4,4 @@ mod Examples
 mod LineLaws
 mod RangeLaws
 mod WadLaws
+mod BrushLaws

@@ -7,6 +7,8 @@ use Rattle.alias_load.specs.declared.fault.AliasField.{AliasField}
 use Rattle.alias_load.specs.declared.fault.AliasField.TheVariants as field
 use Rattle.alias_load.specs.declared.fault.AliasPart.{AliasPart}
 use Rattle.alias_load.specs.declared.fault.AliasPart.TheVariants as part
+use Rattle.bsp29_tables.specs.declared.fault.BspFault.{BspFault}
+use Rattle.bsp29_tables.specs.declared.fault.BspFault.TheVariants as brush
 use Rattle.res_table.specs.declared.answers.Fault.{Fault}
 use Rattle.res_table.specs.declared.answers.Fault.TheVariants as fault
 use Rattle.sprite_load.specs.declared.fault.SpriteFault.{SpriteFault}
@@ -50,6 +52,25 @@ alias_wrong (alias.Group part row) = row_text (codes "group ") part row
 alias_wrong (alias.Interval part row) = row_text (codes "interval ") part row
 alias_wrong (alias.Triangle row) = numbered (codes "triangle ") row
 
+-- what is wrong with a lump, or a texture, of this number
+abbrev pub of_number : List ℕ → ℕ → List ℕ → List ℕ
+of_number word number wrong = joined (word ∷ decimal number ∷ wrong ∷ [])
+
+-- what is wrong with a brush model
+abbrev pub brush_wrong : BspFault → List ℕ
+brush_wrong brush.Short = codes "short"
+brush_wrong (brush.Version found) = numbered (codes "version ") found
+brush_wrong (brush.LumpOutside lump) = of_number (codes "lump ") lump (codes " outside")
+brush_wrong (brush.LumpSize lump) = of_number (codes "lump ") lump (codes " size")
+brush_wrong (brush.LumpCount lump) = of_number (codes "lump ") lump (codes " too many")
+brush_wrong brush.NoModel = codes "no model"
+brush_wrong brush.TextureTable = codes "texture table"
+brush_wrong (brush.TextureOutside texture) = of_number (codes "texture ") texture (codes " outside")
+brush_wrong (brush.TextureSize texture) = of_number (codes "texture ") texture (codes " size")
+brush_wrong (brush.Unbuilt texture) = of_number (codes "texture ") texture (codes " not built")
+brush_wrong (brush.BadRow lump row) = joined (codes "lump " ∷ decimal lump ∷ codes " row " ∷ decimal row ∷ [])
+brush_wrong brush.TooLarge = codes "too large"
+
 -- what is wrong with a sprite
 abbrev pub sprite_wrong : SpriteFault → List ℕ
 sprite_wrong sprite.Short = codes "short"
@@ -79,8 +100,8 @@ wav_wrong (wav.Rate rate) = numbered (codes "rate ") rate
 
 -- what is wrong with a resource
 abbrev pub fault_text : Fault → List ℕ
+fault_text (fault.Brush wrong) = brush_wrong wrong
 fault_text (fault.Alias wrong) = alias_wrong wrong
 fault_text (fault.Sprite wrong) = sprite_wrong wrong
 fault_text (fault.Wad wrong) = wad_wrong wrong
 fault_text (fault.Sound wrong) = wav_wrong wrong
-fault_text fault.Unbuilt = codes "not built"

@@ -1,5 +1,5 @@
 -- What a resource says of itself: a function of its name and of its image.
-use Rattle.std.specs.Prelude.{ℕ, List, [], ◌∷◌, Option, Some, None, decimal, codes}
+use Rattle.std.specs.Prelude.{ℕ, List, [], ◌∷◌, decimal, codes}
 use Rattle.reply_pieces.specs.Pieces.{joined}
 use Rattle.alias_load.specs.declared.image_header.AliasHeader.{AliasHeader}
 use Rattle.alias_load.specs.Headers.{header_in as alias_in}
@@ -9,6 +9,8 @@ use Rattle.sprite_load.specs.declared.header.SpriteHeader.{SpriteHeader}
 use Rattle.sprite_load.specs.Headers.{header_in as sprite_in}
 use Rattle.wav_load.specs.declared.header.SoundHeader.{SoundHeader}
 use Rattle.wav_load.specs.Headers.{header_in as sound_in}
+use Rattle.info_text.specs.Brushes.{brush_text}
+use Rattle.info_text.specs.Numbers.{number_or_none}
 use Rattle.info_text.specs.Wads.{wad_text}
 
 abbrev pub alias_text : List ℕ → AliasHeader → List ℕ
@@ -22,11 +24,6 @@ abbrev pub sprite_text : List ℕ → SpriteHeader → List ℕ
 sprite_text name header = joined (codes "sprite " ∷ name ∷ codes " type " ∷ decimal header.kind
     ∷ codes " frames " ∷ decimal header.frames ∷ codes " pictures " ∷ decimal header.pictures ∷ codes "\n" ∷ [])
 
--- the number, or that there is none
-abbrev pub number_or_none : Option ℕ → List ℕ
-number_or_none (Some number) = decimal number
-number_or_none None = codes "none"
-
 abbrev pub sound_text : List ℕ → SoundHeader → List ℕ
 sound_text name header = joined (codes "sound " ∷ name ∷ codes " length " ∷ decimal header.length
     ∷ codes " loop " ∷ number_or_none header.loop_start ∷ codes " speed " ∷ decimal header.speed
@@ -34,6 +31,7 @@ sound_text name header = joined (codes "sound " ∷ name ∷ codes " length " �
 
 -- what the image of each kind says
 abbrev pub info_text : Kind → (name image : List ℕ) → List ℕ
+info_text kind.Brush name image = brush_text name image
 info_text kind.Alias name image = alias_text name (alias_in image)
 info_text kind.Sprite name image = sprite_text name (sprite_in image)
 info_text kind.Wad name image = wad_text name image

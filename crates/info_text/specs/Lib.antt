@@ -5,4 +5,6 @@ pub mod Lines
 pub mod LumpErrors
 pub mod LumpNames
 pub mod Pictures
+pub mod Numbers
+pub mod Brushes
 pub mod Wads

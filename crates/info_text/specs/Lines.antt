@@ -10,6 +10,7 @@ use Rattle.info_text.specs.Faults.{fault_text}
 
 -- the word for a kind
 abbrev pub kind_text : Kind → List ℕ
+kind_text kind.Brush = codes "brush"
 kind_text kind.Alias = codes "alias"
 kind_text kind.Sprite = codes "sprite"
 kind_text kind.Wad = codes "wad"
@@ -25,11 +26,11 @@ resource_text name res = joined (kind_text res.kind ∷ codes " " ∷ name ∷ c
 
 -- the word for what a file was taken for
 abbrev pub fault_word : Fault → List ℕ
+fault_word (fault.Brush wrong) = kind_text kind.Brush
 fault_word (fault.Alias wrong) = kind_text kind.Alias
 fault_word (fault.Sprite wrong) = kind_text kind.Sprite
 fault_word (fault.Wad wrong) = kind_text kind.Wad
 fault_word (fault.Sound wrong) = kind_text kind.Sound
-fault_word fault.Unbuilt = codes "brush"
 
 -- of which resource, and what is wrong
 abbrev pub bad_title : (name : List ℕ) → Fault → List ℕ

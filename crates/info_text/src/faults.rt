@@ -1,10 +1,12 @@
 // What is wrong with the bytes of a file that are no resource.
 ghost use Rattle.std.specs.Prelude.{◌≡◌, ◌++◌};
 ghost use Rattle.reply_pieces.specs.Pieces.{text_of};
-ghost use Rattle.info_text.specs.Faults.{alias_wrong, fault_text, field_text, numbered, part_text};
+ghost use Rattle.bsp29_tables.specs.declared.fault.BspFault.TheVariants.{BadRow};
+ghost use Rattle.info_text.specs.Faults.{brush_wrong, of_number, alias_wrong, fault_text, field_text, numbered, part_text};
 ghost use Rattle.info_text.specs.Faults.{row_text, sprite_wrong, wad_wrong, wav_wrong};
 
 use alias_load::{AliasFault, AliasField, AliasPart};
+use bsp29_tables::BspFault;
 use reply_pieces::Piece;
 use res_table::Fault;
 use sprite_load::SpriteFault;
@@ -86,6 +88,48 @@ fn alias_pieces(fault: AliasFault) -> [Piece<'static>; 4]
     }
 }
 
+// What is wrong with a lump, or a texture, of this number.
+fn of_number(text: &'static [u8], number: u32, wrong: &'static [u8]) -> [Piece<'static>; 4]
+    ensures { text_of result ≡ of_number text.now number wrong.now }
+{
+    [
+        Piece::Text(text),
+        Piece::Number(u64::from(number)),
+        Piece::Text(wrong),
+        NONE,
+    ]
+}
+
+fn in_lump(lump: u32, row: u32) -> [Piece<'static>; 4]
+    ensures { text_of result ≡ brush_wrong (BadRow lump row) }
+{
+    [
+        Piece::Text(b"lump "),
+        Piece::Number(u64::from(lump)),
+        Piece::Text(b" row "),
+        Piece::Number(u64::from(row)),
+    ]
+}
+
+fn brush_pieces(fault: BspFault) -> [Piece<'static>; 4]
+    ensures { text_of result ≡ brush_wrong fault }
+{
+    match fault {
+        BspFault::Short => word(b"short"),
+        BspFault::Version { found } => numbered(b"version ", found),
+        BspFault::LumpOutside { lump } => of_number(b"lump ", lump, b" outside"),
+        BspFault::LumpSize { lump } => of_number(b"lump ", lump, b" size"),
+        BspFault::LumpCount { lump } => of_number(b"lump ", lump, b" too many"),
+        BspFault::NoModel => word(b"no model"),
+        BspFault::TextureTable => word(b"texture table"),
+        BspFault::TextureOutside { texture } => of_number(b"texture ", texture, b" outside"),
+        BspFault::TextureSize { texture } => of_number(b"texture ", texture, b" size"),
+        BspFault::Unbuilt { texture } => of_number(b"texture ", texture, b" not built"),
+        BspFault::BadRow { lump, row } => in_lump(lump, row),
+        BspFault::TooLarge => word(b"too large"),
+    }
+}
+
 fn sprite_pieces(fault: SpriteFault) -> [Piece<'static>; 4]
     ensures { text_of result ≡ sprite_wrong fault }
 {
@@ -130,10 +174,10 @@ pub(crate) fn fault_pieces(fault: Fault) -> [Piece<'static>; 4]
     ensures { text_of result ≡ fault_text fault }
 {
     match fault {
+        Fault::Brush(fault) => brush_pieces(fault),
         Fault::Alias(fault) => alias_pieces(fault),
         Fault::Sprite(fault) => sprite_pieces(fault),
         Fault::Wad(fault) => wad_pieces(fault),
         Fault::Sound(fault) => wav_pieces(fault),
-        Fault::Unbuilt => word(b"not built"),
     }
 }

@@ -1,12 +1,14 @@
 // What an image says of a resource.
 ghost use Rattle.std.specs.Prelude.{◌≡◌, ◌≤◌, length};
 ghost use Rattle.alias_load.specs.Headers.{header_in as alias_in};
-ghost use Rattle.reply_pieces.specs.Pieces.{piece_text, PutsText};
+ghost use Rattle.reply_pieces.specs.Pieces.{PutsText};
 ghost use Rattle.res_table.specs.Images.{IsImage};
 ghost use Rattle.sprite_load.specs.Headers.{header_in as sprite_in};
 ghost use Rattle.wav_load.specs.Headers.{header_in as sound_in};
-ghost use Rattle.info_text.specs.Infos.{alias_text, info_text, number_or_none, sound_text, sprite_text};
+ghost use Rattle.info_text.specs.Infos.{alias_text, info_text, sound_text, sprite_text};
 
+use crate::brushes::info_brush;
+use crate::numbers::number_or_none;
 use crate::wads::info_wad;
 use alias_load::alias_header;
 use base_fields::GameName;
@@ -78,16 +80,6 @@ pub(crate) fn info_sprite<O: Sink>(
     )
 }
 
-// The number, or that there is none.
-fn number_or_none(number: Option<u32>) -> Piece<'static>
-    ensures { piece_text result ≡ number_or_none number }
-{
-    match number {
-        Some(number) => Piece::Number(u64::from(number)),
-        None => Piece::Text(b"none"),
-    }
-}
-
 // Puts `sound NAME length L loop P speed S width W`.
 pub(crate) fn info_sound<O: Sink>(
     name: &GameName,
@@ -118,6 +110,11 @@ pub(crate) fn info_sound<O: Sink>(
 
 /// Puts what the image of a resource says of it.
 ///
+/// - Of a brush model it is `brush NAME planes A vertexes B nodes C texinfos D faces E clipnodes F leafs G marksurfaces H
+///   edges I surfedges J models K textures T visleafs V` in one line: how many of each it has, and how many leafs can be
+///   seen in its first model. Then comes a line for each texture, in order: `texture I NAME W H total A min B max C next
+///   N alternate M` with its number from 0 on, its name, its width and its height, and its animation, or
+///   `texture I missing`. The name is shown as that of a lump.
 /// - Of an alias model it is `alias NAME skins A width B height C verts D tris E frames F pictures G poses H`: how many
 ///   skins it has, the width and the height of their pictures, the vertices of a pose, how many triangles and frames it
 ///   has, the pictures of all skins, and the poses of all frames.
@@ -141,6 +138,7 @@ pub fn info<O: Sink>(
     ensures { PutsText O.Sink (info_text kind name.now image.now) out.old out.new result }
 {
     match kind {
+        Kind::Brush => info_brush(name, image, out),
         Kind::Alias => info_alias(name, image, out),
         Kind::Sprite => info_sprite(name, image, out),
         Kind::Wad => info_wad(name, image, out),

@@ -2,6 +2,7 @@
 //! digits, what the image says of it, and a picture of a wad.
 #![tactic(auto)]
 
+mod brushes;
 mod digits;
 mod dumps;
 mod faults;
@@ -9,6 +10,7 @@ mod infos;
 mod lines;
 mod lump_errors;
 mod lump_names;
+mod numbers;
 mod pictures;
 #[cfg(test)]
 mod tests;

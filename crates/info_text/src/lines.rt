@@ -13,6 +13,7 @@ fn kind_text(kind: Kind) -> &'static [u8]
     ensures { result.now ≡ kind_text kind }
 {
     match kind {
+        Kind::Brush => b"brush",
         Kind::Alias => b"alias",
         Kind::Sprite => b"sprite",
         Kind::Wad => b"wad",
@@ -27,7 +28,7 @@ fn loaded_text(loaded: bool) -> &'static [u8]
 }
 
 /// Puts `KIND NAME SIZE at PLACE loaded` of a resource that was loaded now, and with `present` of one that was there.
-/// KIND is `alias`, `sprite`, `wad` or `sound`, and the size is that of its image in bytes, which begins at the place.
+/// KIND is `brush`, `alias`, `sprite`, `wad` or `sound`, and the size is that of its image in bytes, which begins at the place.
 ///
 /// It takes no memory. After an error a front of the text was put.
 pub fn put_resource<O: Sink>(name: &GameName, res: &Res, out: &mut O) -> Result<(), SinkFailed>
@@ -55,11 +56,11 @@ fn fault_word(fault: Fault) -> &'static [u8]
     ensures { result.now ≡ fault_word fault }
 {
     match fault {
+        Fault::Brush(_) => kind_text(Kind::Brush),
         Fault::Alias(_) => kind_text(Kind::Alias),
         Fault::Sprite(_) => kind_text(Kind::Sprite),
         Fault::Sound(_) => kind_text(Kind::Sound),
         Fault::Wad(_) => kind_text(Kind::Wad),
-        Fault::Unbuilt => b"brush",
     }
 }
 
@@ -80,7 +81,10 @@ fn put_title<O: Sink>(name: &GameName, fault: Fault, out: &mut O) -> Result<(), 
 
 /// Puts `bad KIND NAME: FAULT` of a file whose bytes are no resource of their kind.
 ///
-/// - Of an alias model the fault is `short`, `version V` with the version that was found, `header FIELD` (`numskins`,
+/// - Of a brush model the fault is `short`, `version V` with the version that was found, `lump I outside`, `lump I size`,
+///   `lump I too many`, `no model`, `texture table`, `texture I outside`, `texture I size`, `texture I not built`,
+///   `lump I row R` or `too large`, with the number of the lump or the texture and that of the row, from 0 on.
+/// - Of an alias model it is `short`, `version V` with the version that was found, `header FIELD` (`numskins`,
 ///   `skinwidth`, `skinheight`, `numverts`, `numtris` or `numframes`), `truncated PART` (`skin`, `st`, `triangle` or
 ///   `frame`), `group PART R`, `interval PART R`, or `triangle R`. R is the row in the part, from 0 on.
 /// - Of a sprite it is `short`, `version V`, `header numframes`, `truncated frame`, `group frame R`, `interval frame R`
@@ -88,7 +92,6 @@ fn put_title<O: Sink>(name: &GameName, fault: Fault, out: &mut O) -> Result<(), 
 /// - Of a sound it is `not riff`, `no fmt`, `not pcm`, `not mono`, `width`, `no data`, `bad loop`, `too long`, or
 ///   `rate S` with its samples a second.
 /// - Of a wad it is `not wad` or `table outside`.
-/// - Of a brush it is `not built`, whatever its bytes are.
 ///
 /// It takes no memory. After an error a front of the text was put.
 pub fn put_bad<O: Sink>(name: &GameName, fault: Fault, out: &mut O) -> Result<(), SinkFailed>

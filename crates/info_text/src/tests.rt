@@ -10,6 +10,7 @@ use std::process::Abort;
 use std::test::Fail;
 use wav_load::WavFault;
 
+mod brushes;
 mod wads;
 
 // The bytes from 0 on.
@@ -298,7 +299,14 @@ fn a_sprite_has_its_line(rt: HostRuntime) -> Result<(), Fail> {
 fn a_resource_has_its_line(rt: HostRuntime) -> Result<(), Fail> {
     let alloc = rt.alloc();
     let name = game_name(b"a/x.y").expect(&rt, "a name");
-    let cases: [(Kind, u32, u32, bool, &[u8]); 5] = [
+    let cases: [(Kind, u32, u32, bool, &[u8]); 6] = [
+        (
+            Kind::Brush,
+            196,
+            49_184,
+            true,
+            b"brush a/x.y 196 at 49184 loaded\n",
+        ),
         (
             Kind::Alias,
             188,
@@ -394,14 +402,4 @@ fn each_fault_of_a_sound_has_its_line(rt: HostRuntime) -> Result<(), Fail> {
         )?;
     }
     Ok(())
-}
-
-#[test]
-fn a_model_that_is_not_built_has_its_line(rt: HostRuntime) -> Result<(), Fail> {
-    tells(
-        &rt,
-        rt.alloc(),
-        Fault::Unbuilt,
-        &[b"bad brush x: not built\n"],
-    )
 }

@@ -1,5 +1,8 @@
-use Rattle.info_text.proofs.ImageLaws.{alias_long, sprite_long, wad_is, sound_long}
+use Rattle.info_text.proofs.ImageLaws.{brush_is, alias_long, sprite_long, wad_is, sound_long}
 use Rattle.info_text.proofs.infos.info.Goals as goal
+
+pub info_brush-requires : goal.info_brush-requires
+info_brush-requires g c = brush_is c.args.image.now (rw c.in-Brush.is at c.requires)
 
 pub info_alias-requires : goal.info_alias-requires
 info_alias-requires g c = alias_long c.args.image.now (rw c.in-Alias.is at c.requires)
