@@ -1,5 +1,5 @@
 -- What a command does that acquires a resource.
-use Rattle.std.proofs.Common.{◌≡◌, ℕ, List, Bool, false, Option, Some, None, IfSome, IfErr, Result, Ok, Err, refl, sym, ◌∙◌, ap, subst, if◌then◌else◌}
+use Rattle.std.proofs.Common.{◌≡◌, ℕ, List, Bool, false, Option, Some, None, IfSome, IfErr, Result, Ok, Err, refl, sym, ◌∙◌, ap, subst, if◌then◌else◌, arith}
 use Rattle.std.specs.Prelude.{IsTrue, IsErrOf, is_none}
 use Rattle.std.specs.Bool.{OnFalse}
 use Rattle.base_fields.specs.Names.{is_game_name}
@@ -24,10 +24,11 @@ use Rattle.res_table.specs.declared.answers.AcquireError.TheVariants as why
 use Rattle.res_table.specs.declared.answers.Res.{Res}
 use Rattle.res_table.specs.declared.kinds.Table.{Table}
 use Rattle.res_table.specs.declared.kinds.Table.TheVariants.{Models}
-use Rattle.console_session.specs.Commands.{acquire_named, acquired_text, answer_acquire, answer_wad, bad_name, by_resource, wad_after, wad_text, with_acquired}
-use Rattle.console_session.specs.Holding.{Holds, IsLowMark}
+use Rattle.console_session.specs.Commands.{acquire_named, acquired_text, answer_acquire, answer_wad, bad_name, by_resource, cleared, wad_after, wad_text, with_acquired}
+use Rattle.map_change.specs.Marks.{IsLowMark}
+use Rattle.console_session.specs.Holding.{Holds}
 use Rattle.console_session.specs.Serving.{seen, path_of, faults_in, calls_in, Does}
-use Rattle.console_session.specs.States.{State, PathSeen, Done, Told, asks, CauseOf, Follows}
+use Rattle.console_session.specs.States.{State, PathSeen, Did, Done, Told, asks, CauseOf, Follows}
 use Rattle.console_session.specs.Telling.{Tells, Puts, acquired_told}
 use Rattle.console_session.specs.declared.console.Console.{Console}
 use Rattle.console_session.specs.declared.ends.Next.{Next}
@@ -37,7 +38,12 @@ use Rattle.console_session.specs.declared.ends.Fault.TheVariants as fault
 use Rattle.console_session.proofs.Following.{follows, still_put, cause_told}
 use Rattle.console_session.proofs.Holding.{holds_parts}
 use Rattle.console_session.proofs.Loading.{same_path, same_folders}
-use Rattle.console_session.proofs.Marking.{mark_below}
+use Rattle.map_change.proofs.Marking.{mark_below, mark_freed}
+use Rattle.map_change.specs.Changes.{freed_to}
+use Rattle.mem_model.proofs.CacheLaws.{Laid-low_free}
+use Rattle.mem_model.proofs.Untouched.{zone-low_free}
+use Rattle.res_table.specs.Forgotten.{forgotten}
+use Rattle.res_table.proofs.Forgetting.{AreHeld-forgotten}
 use Rattle.console_session.proofs.Serving.{does_as}
 
 -- the state with another memory, other tables and another current wad
@@ -92,13 +98,62 @@ acquire_cause tells name file frugal a b s t (Err (why.FolderFault folder)) is m
 acquire_cause tells name file frugal a b s t (Err why.OutOfMemory) is memory = memory refl
 
 module _ {M F O : Type 0} (store : StoreGhosts M) (folder : FolderGhosts F) (sink : SinkGhosts O) (table : Table) (name : List ℕ) (old new : Console M F) (before now : O) (answer : Result Res AcquireError) (result : Result Next Fault) where
+  -- What a command does that acquires in this memory, with these tables, which a console holds that is else as before.
+  module _ (start : Memory) (tables : Resources) (command : State → Did) where
+    abbrev ready : State
+    ready = record (seen store folder old) { memory = start; table = tables }
+
+    pub does_from : (tells : Res → List ℕ) (wad : Result Res AcquireError → Option (List ℕ))
+        → command (seen store folder old) ≡ by_resource tells wad table name ready
+        → IfSome (acquire tables start table name (load_temp ready.path.mounts start (file_of table name))) (λ given. Acquires (is_none (answered_before tables start table name)) given answer new.table (store.state new.store))
+        → IfSome (answered_before tables start table name) (λ _. new.paths ≡ old.paths)
+        → seen store folder new ≡ record ready { memory = store.state new.store; path = path_of folder new.paths; table = new.table; wad = wad answer }
+        → Holds ready → Laid (store.state new.store) → AreHeld (told_mounts folder.files new.paths) new.table (store.state new.store) → GrowsLow start (store.state new.store) → (store.state new.store).zone ≡ start.zone
+        → SamePath folder.files old.paths new.paths → NoneFalls (faults_in folder old) (faults_in folder new) → IfErr answer (IsAcquireFault (faults_in folder old) (faults_in folder new)) → (IsErrOf answer why.OutOfMemory → store.frugal ≡ false)
+        → Puts sink (acquired_told tells name (file_of table name) answer) Goes before now result → Does store folder sink command old new before now result
+    does_from tells wad is told same others h laid held low zone path faults cause memory puts = record {
+      told = subst (λ (did : Did). Follows did result (seen store folder new) (sink.got before) (sink.got now)) (sym is) (acquired_follows needed tells wad name file ready (seen store folder new) m new.table result (sink.got before) (sink.got now) given answer moved told puts.told);
+      path = stands;
+      holds = subst (λ (t : State). Holds t) (sym moved) (holds_parts ready m new.table (wad answer) h laid held_here (subst (λ l. IsLowMark l ready.level) (sym low.1) (mark_below start.low low.0 ready.level h.level)) zone);
+      causes = record {
+        none_falls = faults;
+        folders = same_folders folder old.paths new.paths path;
+        sink_counts = puts.counts;
+        cause = cause_told Goes store.frugal (faults_in folder old) (faults_in folder new) (sink.sink_faults before) (sink.sink_faults now) (acquired_told tells name file answer) result (sink.got before) (sink.got now) puts.told puts.cause
+            (acquire_cause tells name file store.frugal (faults_in folder old) (faults_in folder new) (sink.sink_faults before) (sink.sink_faults now) answer cause memory);
+      };
+      calls = subst (λ (did : Did). OnFalse (asks did) (calls_in folder new ≡ calls_in folder old)) (sym is) (unasked (calls_in folder new ≡ calls_in folder old) tells wad name file ready (answered_before tables start table name) given (no_calls (answered_before tables start table name) same));
+    }
+      where
+        file : List ℕ
+        file = file_of table name
+
+        needed : Bool
+        needed = is_none (answered_before tables start table name)
+
+        m : Memory
+        m = store.state new.store
+
+        given : Option Acquired
+        given = acquire tables start table name (load_temp ready.path.mounts start (file_of table name))
+
+        stands : path_of folder new.paths ≡ path_of folder old.paths
+        stands = same_path folder old.paths new.paths path
+
+        moved : seen store folder new ≡ with_parts ready m new.table (wad answer)
+        moved = others ∙ ap (λ (p : PathSeen). record ready { memory = m; path = p; table = new.table; wad = wad answer }) stands
+
+        held_here : AreHeld ready.path.mounts new.table m
+        held_here = subst (λ (ms : List (Option Mount)). AreHeld ms new.table m) (ap (λ (p : PathSeen). p.mounts) stands) held
+
+        no_calls : (before : Option Acquired) → IfSome before (λ _. new.paths ≡ old.paths) → IfSome before (λ _. calls_in folder new ≡ calls_in folder old)
+        no_calls None is = tt
+        no_calls (Some before) is = ap (λ (p : PathState F). counts_of folder.folder_calls p) is
+
   abbrev s : State
   s = seen store folder old
 
-  abbrev file : List ℕ
-  file = file_of table name
-
-  -- what a command does that acquires
+  -- What a command does that acquires in the memory and with the tables that there are.
   pub does_resource : (tells : Res → List ℕ) (wad : Result Res AcquireError → Option (List ℕ))
       → IfSome (acquire s.table s.memory table name (load_temp s.path.mounts s.memory (file_of table name))) (λ given. Acquires (is_none (answered_before s.table s.memory table name)) given answer new.table (store.state new.store))
       → IfSome (answered_before s.table s.memory table name) (λ _. new.paths ≡ old.paths)
@@ -106,41 +161,8 @@ module _ {M F O : Type 0} (store : StoreGhosts M) (folder : FolderGhosts F) (sin
       → Holds s → Laid (store.state new.store) → AreHeld (told_mounts folder.files new.paths) new.table (store.state new.store) → GrowsLow s.memory (store.state new.store) → (store.state new.store).zone ≡ s.memory.zone
       → SamePath folder.files old.paths new.paths → NoneFalls (faults_in folder old) (faults_in folder new) → IfErr answer (IsAcquireFault (faults_in folder old) (faults_in folder new)) → (IsErrOf answer why.OutOfMemory → store.frugal ≡ false)
       → Puts sink (acquired_told tells name (file_of table name) answer) Goes before now result → Does store folder sink (by_resource tells wad table name) old new before now result
-  does_resource tells wad told same others h laid held low zone path faults cause memory puts = record {
-    told = acquired_follows needed tells wad name file s (seen store folder new) m new.table result (sink.got before) (sink.got now) given answer moved told puts.told;
-    path = stands;
-    holds = subst (λ (t : State). Holds t) (sym moved) (holds_parts s m new.table (wad answer) h laid held_here (subst (λ l. IsLowMark l s.level) (sym low.1) (mark_below s.memory.low low.0 s.level h.level)) zone);
-    causes = record {
-      none_falls = faults;
-      folders = same_folders folder old.paths new.paths path;
-      sink_counts = puts.counts;
-      cause = cause_told Goes store.frugal (faults_in folder old) (faults_in folder new) (sink.sink_faults before) (sink.sink_faults now) (acquired_told tells name file answer) result (sink.got before) (sink.got now) puts.told puts.cause
-          (acquire_cause tells name file store.frugal (faults_in folder old) (faults_in folder new) (sink.sink_faults before) (sink.sink_faults now) answer cause memory);
-    };
-    calls = unasked (calls_in folder new ≡ calls_in folder old) tells wad name file s (answered_before s.table s.memory table name) given (no_calls (answered_before s.table s.memory table name) same);
-  }
-    where
-      needed : Bool
-      needed = is_none (answered_before s.table s.memory table name)
-
-      m : Memory
-      m = store.state new.store
-
-      given : Option Acquired
-      given = acquire s.table s.memory table name (load_temp s.path.mounts s.memory (file_of table name))
-
-      stands : path_of folder new.paths ≡ path_of folder old.paths
-      stands = same_path folder old.paths new.paths path
-
-      moved : seen store folder new ≡ with_parts s m new.table (wad answer)
-      moved = others ∙ ap (λ (p : PathSeen). record s { memory = m; path = p; table = new.table; wad = wad answer }) stands
-
-      held_here : AreHeld s.path.mounts new.table m
-      held_here = subst (λ (ms : List (Option Mount)). AreHeld ms new.table m) (ap (λ (p : PathSeen). p.mounts) stands) held
-
-      no_calls : (before : Option Acquired) → IfSome before (λ _. new.paths ≡ old.paths) → IfSome before (λ _. calls_in folder new ≡ calls_in folder old)
-      no_calls None is = tt
-      no_calls (Some before) is = ap (λ (p : PathState F). counts_of folder.folder_calls p) is
+  does_resource tells wad told same others h laid held low zone path faults cause memory puts =
+      does_from s.memory s.table (by_resource tells wad table name) tells wad refl told same others h laid held low zone path faults cause memory puts
 
   -- the model of a name is to be the current wad
   pub does_wad : Does store folder sink (by_resource (wad_text name) (wad_after s.wad name) Models name) old new before now result → Does store folder sink (answer_wad (Some name)) old new before now result
@@ -151,3 +173,9 @@ module _ {M F O : Type 0} (store : StoreGhosts M) (folder : FolderGhosts F) (sin
   pub does_acquired : IsTrue (is_game_name (file_of table name)) → Does store folder sink (by_resource (resource_text name) (λ answer. s.wad) table name) old new before now result → Does store folder sink (answer_acquire table (Some name)) old new before now result
   does_acquired lawful does =
       does_as store folder sink old new before now result (answer_acquire table (Some name)) (by_resource (resource_text name) (λ answer. s.wad) table name) (ap (λ (b : Bool). if b then acquire_named table name s else bad_name s) lawful) does
+
+-- What lies behind the host level goes, and a console holds what it held.
+pub cleared_holds : (s : State) → Holds s → Holds (cleared s)
+cleared_holds s h =
+    holds_parts s (freed_to s.level s.memory) (forgotten s.level s.table) s.wad h (Laid-low_free s.memory s.level h.laid) (AreHeld-forgotten _ _ _ s.level h.resources h.laid)
+    (mark_freed s.memory s.level s.level h.laid.low h.level (omega arith)) (zone-low_free s.memory s.level)

@@ -11,7 +11,8 @@ use Rattle.mem_model.proofs.CacheLaws.{beside-high_alloc, beside-high_free, besi
 use Rattle.mem_model.proofs.Keeping.{Keeps-answer, Keeps-gives, Keeps-high_alloc, Keeps-high_free, Keeps-high_mark, Keeps-more, Keeps-without_temp}
 use Rattle.res_table.specs.Held.{lows_of}
 use Rattle.console_session.specs.States.{State}
-use Rattle.console_session.specs.Holding.{Holds, IsLowMark}
+use Rattle.map_change.specs.Marks.{IsLowMark}
+use Rattle.console_session.specs.Holding.{Holds}
 use Rattle.console_session.proofs.Holding.{holds_memory}
 
 -- The high hunk changed alone.

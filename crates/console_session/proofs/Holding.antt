@@ -22,7 +22,8 @@ use Rattle.res_table.specs.Held.{AreHeld, lows_of}
 use Rattle.res_table.specs.Resources.{Resources}
 use Rattle.res_table.proofs.Holding.{AreHeld-Keeps}
 use Rattle.console_session.specs.States.{State, PathSeen, IsNew}
-use Rattle.console_session.specs.Holding.{Holds, IsLowMark}
+use Rattle.map_change.specs.Marks.{IsLowMark}
+use Rattle.console_session.specs.Holding.{Holds}
 
 -- Over a step that leaves what is kept elsewhere, what is held there is held still, and apart from what is kept now.
 module _ (m n : Memory) (before now : List ℕ) (stay : OthersStay m n before now) where

@@ -23,7 +23,7 @@ use Rattle.res_table.specs.declared.kinds.Kind.{Kind}
 use Rattle.res_table.specs.declared.kinds.Table.{Table}
 use Rattle.res_table.specs.declared.kinds.Table.TheVariants.{Models, Sounds}
 use Rattle.console_session.specs.States.{State, Done, Did, Told, Untold, says}
-use Rattle.console_session.specs.Commands.{acquire_named, answer_acquire, answer_wad, wad_text, wad_after, bad_name, by_image, by_resource, table_in, with_acquired, word_at, with_load, with_told, by_load, shown_file, inserted_file, of_number_and_name, reserve_block, video_block, list_aliases, make_alias, make_cvar, cvar_text, by_cvar, by_alias, by_verb, by_words, by_text, command, name_in, number_in}
+use Rattle.console_session.specs.Commands.{acquire_named, answer_acquire, answer_map, answer_wad, cleared, map_in, map_text, wad_text, wad_after, bad_name, by_image, by_resource, table_in, with_acquired, word_at, with_load, with_told, by_load, shown_file, inserted_file, of_number_and_name, reserve_block, video_block, list_aliases, make_alias, make_cvar, cvar_text, by_cvar, by_alias, by_verb, by_words, by_text, command, name_in, number_in}
 use Rattle.console_session.specs.Verbs.{verb_of}
 use Rattle.console_session.specs.Frames.{Ended, Ran, ending, gone_on, continued, frame, overflowed, line, IsRun, IsCutShort, GoesAs, Runs}
 use Rattle.console_session.specs.declared.ends.Fault.{Fault}
@@ -91,6 +91,11 @@ module _ (s : State) (mounts : List Mount) (told : AllTold s mounts) where
   knows_wad None = refl
   knows_wad (Some name) = knows_resource (wad_text name) (wad_after s.wad name) Models name
 
+module _ (s : State) (mounts : List Mount) (told : AllTold s mounts) where
+  knows_map : (file : Option (List ℕ)) → Knows s (answer_map file s)
+  knows_map None = refl
+  knows_map (Some file) = knows_resource (cleared s) mounts told (map_text file) (λ answer. s.wad) Models file
+
   knows_image : (tells : Kind → (name image : List ℕ) → List ℕ) (table : Option Table) (name : Option (List ℕ)) → Knows s (by_image tells table name s)
   knows_image tells None name = refl
   knows_image tells (Some table) None = refl
@@ -107,23 +112,24 @@ module _ (s : State) (mounts : List Mount) (told : AllTold s mounts) where
 
     knows_verb : (v : Option Verb) → Knows s (by_verb v words s)
     knows_verb None = knows_alias (alias_value s.memory s.newest (word_at 0 words))
-    knows_verb (Some verb.File) = knows_load (codes "not found: ") shown_file (λ name m place bytes. refl) (name_in 1 words)
+    knows_verb (Some verb.File) = knows_load s mounts told (codes "not found: ") shown_file (λ name m place bytes. refl) (name_in 1 words)
     knows_verb (Some verb.Echo) = refl
-    knows_verb (Some verb.Exec) = knows_load (codes "couldn't exec ") inserted_file (λ name m place bytes. refl) (name_in 1 words)
+    knows_verb (Some verb.Exec) = knows_load s mounts told (codes "couldn't exec ") inserted_file (λ name m place bytes. refl) (name_in 1 words)
     knows_verb (Some verb.Wait) = refl
     knows_verb (Some verb.Quit) = refl
-    knows_verb (Some verb.Reserve) = knows_block reserve_block (λ size name. refl) (number_in 1 words) (name_in 2 words)
-    knows_verb (Some verb.Video) = knows_block video_block (λ size name. refl) (number_in 1 words) (name_in 2 words)
+    knows_verb (Some verb.Reserve) = knows_block s mounts told reserve_block (λ size name. refl) (number_in 1 words) (name_in 2 words)
+    knows_verb (Some verb.Video) = knows_block s mounts told video_block (λ size name. refl) (number_in 1 words) (name_in 2 words)
     knows_verb (Some verb.Level) = refl
     knows_verb (Some verb.Report) = refl
     knows_verb (Some verb.Alias) = by_test s (eqb (length words) 1) (list_aliases s) (make_alias words s) refl refl
     knows_verb (Some verb.Path) = refl
     knows_verb (Some verb.Flush) = refl
-    knows_verb (Some verb.Sound) = knows_acquire Sounds (name_in 1 words)
-    knows_verb (Some verb.Model) = knows_acquire Models (name_in 1 words)
+    knows_verb (Some verb.Sound) = knows_acquire s mounts told Sounds (name_in 1 words)
+    knows_verb (Some verb.Model) = knows_acquire s mounts told Models (name_in 1 words)
     knows_verb (Some verb.Info) = knows_image info_text (table_in 1 words) (name_in 2 words)
     knows_verb (Some verb.Dump) = knows_image (λ kind. dump_text) (table_in 1 words) (name_in 2 words)
-    knows_verb (Some verb.Wad) = knows_wad (name_in 1 words)
+    knows_verb (Some verb.Wad) = knows_wad s mounts told (name_in 1 words)
+    knows_verb (Some verb.Map) = knows_map (map_in 1 words)
     knows_verb (Some verb.Pic) = refl
 
     knows_words : Knows s (by_words words s)

@@ -1,7 +1,7 @@
 -- The commands.
 use Rattle.std.specs.Prelude.{ℕ, Bool, true, false, ◌==◌, if◌then◌else◌, List, [], ◌∷◌, ◌++◌, length, bytes_eq, is_none}
 use Rattle.std.specs.Prelude.{drop, slice_index_or, Option, Some, None, option_and_then, Result, Ok, Err, codes, decimal}
-use Rattle.base_fields.specs.Names.{lawful_name, base_of, is_game_name}
+use Rattle.base_fields.specs.Names.{lawful_name, joined_name, base_of, is_game_name}
 use Rattle.base_fields.specs.Numbers.{number_of}
 use Rattle.base_fields.specs.Texts.{until_zero}
 use Rattle.search_paths.specs.declared.answers.MountRow.{MountRow}
@@ -20,8 +20,10 @@ use Rattle.cvar_table.specs.Cvars.{CvarSet, cvar_value, set_cvar}
 use Rattle.info_text.specs.Dumps.{dump_text}
 use Rattle.info_text.specs.Infos.{info_text}
 use Rattle.info_text.specs.Lines.{bad_text, resource_text}
+use Rattle.map_change.specs.Changes.{freed_to}
 use Rattle.reply_pieces.specs.Pieces.{joined}
 use Rattle.res_table.specs.Acquire.{Acquired, acquire, answered_before}
+use Rattle.res_table.specs.Forgotten.{forgotten}
 use Rattle.res_table.specs.Held.{seen}
 use Rattle.res_table.specs.Images.{file_of}
 use Rattle.res_table.specs.declared.answers.AcquireError.{AcquireError}
@@ -238,6 +240,26 @@ abbrev pub answer_wad : Option (List ℕ) → State → Did
 answer_wad None s = bad_name s
 answer_wad (Some name) s = by_resource (wad_text name) (wad_after s.wad name) Models name s
 
+-- What lies behind the host level is freed, and forgotten.
+abbrev pub cleared : State → State
+cleared s = record s { memory = freed_to s.level s.memory; table = forgotten s.level s.table }
+
+abbrev pub is_brush : Kind → Bool
+is_brush kind.Brush = true
+is_brush other = false
+
+abbrev pub not_map_text : List ℕ → List ℕ
+not_map_text file = joined (file ∷ codes " is no map\n" ∷ [])
+
+-- what is told of a model that is to be a map
+abbrev pub map_text : (file : List ℕ) → Res → List ℕ
+map_text file res = if is_brush res.kind then resource_text file res else not_map_text file
+
+-- The map is changed: what belonged to the last one goes, and the model of this file is acquired.
+abbrev pub answer_map : (file : Option (List ℕ)) → State → Did
+answer_map None s = bad_name s
+answer_map (Some file) s = by_resource (map_text file) (λ answer. s.wad) Models file (cleared s)
+
 abbrev pub bad_kind : State → Did
 bad_kind s = says s Goes (joined (codes "bad kind\n" ∷ []))
 
@@ -370,6 +392,10 @@ name_in number words = lawful_name (word_at number words)
 abbrev pub number_in : ℕ → List (List ℕ) → Option ℕ
 number_in number words = number_of (word_at number words)
 
+-- the name of the file of a map, where it is lawful
+abbrev pub map_in : ℕ → List (List ℕ) → Option (List ℕ)
+map_in number words = joined_name (codes "maps/") (word_at number words) (codes ".bsp")
+
 -- the table that a word names, in exact case
 abbrev pub table_of : List ℕ → Option Table
 table_of word =
@@ -400,6 +426,7 @@ by_verb (Some verb.Model) words s = answer_acquire Models (name_in 1 words) s
 by_verb (Some verb.Info) words s = answer_info (table_in 1 words) (name_in 2 words) s
 by_verb (Some verb.Dump) words s = answer_dump (table_in 1 words) (name_in 2 words) s
 by_verb (Some verb.Wad) words s = answer_wad (name_in 1 words) s
+by_verb (Some verb.Map) words s = answer_map (map_in 1 words) s
 by_verb (Some verb.Pic) words s = answer_pic (word_at 1 words) s
 
 -- a text without words does nothing

@@ -1,22 +1,14 @@
 -- What every state of a console keeps.
-use Rattle.std.specs.Prelude.{◌≡◌, ℕ, ◌<◌, ◌≤◌, List, length, take}
+use Rattle.std.specs.Prelude.{ℕ, ◌≤◌, List, length}
 use Rattle.std.specs.List.{AllByRecursion}
-use Rattle.mem_model.specs.Blocks.{HunkBlock}
-use Rattle.mem_model.specs.Memory.{size_of}
 use Rattle.mem_model.specs.Laid.{Laid, IsText}
 use Rattle.zone_values.specs.Held.{NoneAmong}
 use Rattle.cvar_table.specs.Cvars.{HoldsCvars, places_of as cvar_places}
 use Rattle.cmd_buffer.specs.Aliases.{HoldsAliases, aliases_of, alias_places}
 use Rattle.cmd_buffer.specs.Words.{letters_in}
 use Rattle.res_table.specs.Held.{AreHeld}
+use Rattle.map_change.specs.Marks.{IsLowMark}
 use Rattle.console_session.specs.States.{State}
-
--- The mark is one of the low hunk: the end of the zone's block, or of one above it.
-pub record IsLowMark (low : List HunkBlock) (mark : ℕ) : Type 0 where
-  pub count : ℕ
-  pub some : 0 < count
-  pub inside : count ≤ length low
-  pub ends : size_of (take count low) ≡ mark
 
 -- The memory is laid out, each resource that is there is the image of its file, the host level is a mark of the low hunk, the
 -- buffer has no zero byte, and the cvars and the aliases are in used blocks of the zone, each in its own.

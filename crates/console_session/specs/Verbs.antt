@@ -32,6 +32,7 @@ verbs =
     named (codes "dump") verb.Dump ∷
     named (codes "wad") verb.Wad ∷
     named (codes "pic") verb.Pic ∷
+    named (codes "map") verb.Map ∷
     []
 
 -- the first of these that a word names, in any case

@@ -12,7 +12,7 @@ ghost use Rattle.wad2_lumps.specs.Pictures.{pixels_end};
 ghost use Rattle.console_session.specs.Pictures.{picture_told};
 ghost use Rattle.console_session.specs.Telling.{Puts, acquired_told, refused_told, load_told, block_told, cvar_told, alias_told};
 ghost use Rattle.console_session.specs.Commands.{missing_text, beyond_text, short_text, full_text, long_name_text};
-ghost use Rattle.console_session.specs.Commands.{absent_text, block_text, not_wad_text, no_wad_text, spaced};
+ghost use Rattle.console_session.specs.Commands.{absent_text, block_text, map_text, not_map_text, not_wad_text, no_wad_text, spaced};
 ghost use Rattle.console_session.specs.Commands.{exec_text, file_text, cvar_text, expansion_text, unknown_text};
 ghost use Rattle.console_session.specs.Commands.{alias_line, alias_lines, alias_list, mount_line, mount_lines};
 
@@ -352,6 +352,32 @@ pub fn put_acquired<O: Sink>(
         Ok(res) => put_res(out, name, &res),
         Err(error) => put_refused(out, table, name, error),
     }
+}
+
+// Shows a map that was acquired, or says why there is none.
+pub fn put_map<O: Sink>(
+    out: &mut O,
+    file: &GameName,
+    answer: Result<Res, AcquireError>,
+) -> Result<Next, Fault>
+    requires { HasFileName Table.Models file.now }
+    ensures { Puts O.Sink (acquired_told (map_text file.now) file.now file.now answer) Next.Goes out.old out.new result }
+{
+    match answer {
+        Ok(res) if res.kind == Kind::Brush => put_res(out, file, &res),
+        Ok(_) => put_not_map(out, file),
+        Err(error) => put_refused(out, Table::Models, file, error),
+    }
+}
+
+// Says of a file that it is no map.
+fn put_not_map<O: Sink>(out: &mut O, file: &GameName) -> Result<Next, Fault>
+    ensures { Puts O.Sink (Ok (not_map_text file.now)) Next.Goes out.old out.new result }
+{
+    reply(
+        out,
+        &[Piece::Text(file.bytes()), Piece::Text(b" is no map\n")],
+    )
 }
 
 // Says of a model that it is no wad.

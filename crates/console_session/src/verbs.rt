@@ -24,10 +24,11 @@ pub enum Verb {
     Dump,
     Wad,
     Pic,
+    Map,
 }
 
 // Each command with its name.
-static VERBS: [(&[u8], Verb); 18] = [
+static VERBS: [(&[u8], Verb); 19] = [
     (b"file", Verb::File),
     (b"echo", Verb::Echo),
     (b"exec", Verb::Exec),
@@ -46,6 +47,7 @@ static VERBS: [(&[u8], Verb); 18] = [
     (b"dump", Verb::Dump),
     (b"wad", Verb::Wad),
     (b"pic", Verb::Pic),
+    (b"map", Verb::Map),
 ];
 
 // Whether the two are the same but for the case of their letters.

@@ -133,8 +133,8 @@ fn models_are_acquired(rt: HostRuntime) -> Result<(), Fail> {
         ),
         (
             "model v.wad;model x.bsp;model two;model empty",
-            "bad wad v.wad: not wad\nbad brush x.bsp: not built\n\
-             bad brush two: not built\nbad brush empty: not built\n",
+            "bad wad v.wad: not wad\nbad brush x.bsp: short\n\
+             bad brush two: short\nbad brush empty: short\n",
         ),
         (
             "model;model ../x;model none\ninfo model none;info Model p.spr;info;dump model ../x;dump model none",

@@ -21,6 +21,7 @@ use crate::replies::{
 use base_fields::{GameName, before_zero};
 use cmd_buffer::Words;
 use file_load::{LoadError, load_low};
+use map_change::set_level;
 use mem_model::{Place, Store};
 use outside_io::{Folder, Sink};
 use reply_pieces::Piece;
@@ -151,7 +152,7 @@ impl<M: Store, F: Folder> Console<M, F> {
         requires holds { Holds (seen M.Store F.Folder self.old) }
         ensures { Does M.Store F.Folder O.Sink answer_level self.old self.new out.old out.new result }
     {
-        self.level = self.store.low_mark();
+        self.level = set_level(&self.store);
         reply(
             out,
             &[

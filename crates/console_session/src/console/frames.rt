@@ -4,14 +4,14 @@ ghost use Rattle.cmd_buffer.specs.Buffer.{taken_text};
 ghost use Rattle.mem_model.specs.Laid.{IsText};
 ghost use Rattle.console_session.specs.Holding.{Holds, AreShort};
 ghost use Rattle.console_session.specs.Serving.{seen, Does, RunsAs};
-ghost use Rattle.console_session.specs.Commands.{by_verb, by_words, by_text, command, name_in, number_in, table_in};
+ghost use Rattle.console_session.specs.Commands.{by_verb, by_words, by_text, command, map_in, name_in, number_in, table_in};
 ghost use Rattle.console_session.specs.Frames.{frame, line, overflowed, ending};
 
 use crate::console::Console;
 use crate::ends::{Fault, Next};
 use crate::replies::{put_runaway, put_too_long};
 use crate::verbs::{Verb, find_verb};
-use base_fields::{GameName, decimal, game_name};
+use base_fields::{GameName, decimal, game_name, joined};
 use cmd_buffer::{CommandText, Taken, Words, tokenize};
 use mem_model::Store;
 use outside_io::{Folder, Sink};
@@ -52,6 +52,7 @@ impl<M: Store, F: Folder> Console<M, F> {
             Some(Verb::Dump) => self.dump(table_in(words, 1), name_in(words, 2), out),
             Some(Verb::Wad) => self.take_wad(name_in(words, 1), out),
             Some(Verb::Pic) => self.pic(words.word(1), out),
+            Some(Verb::Map) => self.change_map(map_in(words, 1), out),
         }
     }
 
@@ -157,6 +158,13 @@ fn name_in(words: &Words<'_>, number: usize) -> Option<GameName>
     ensures { result ≡ name_in number words.now }
 {
     game_name(words.word(number)).ok()
+}
+
+// The name of the file of the map that the word of this number names.
+fn map_in(words: &Words<'_>, number: usize) -> Option<GameName>
+    ensures { result ≡ map_in number words.now }
+{
+    joined(b"maps/", words.word(number), b".bsp").ok()
 }
 
 fn number_in(words: &Words<'_>, number: usize) -> Option<u32>

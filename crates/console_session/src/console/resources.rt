@@ -3,7 +3,7 @@ ghost use Rattle.std.specs.Prelude.{◌≡◌, ◌≤◌, length, IfOk, IfSome, 
 ghost use Rattle.res_table.specs.Images.{IsImage};
 ghost use Rattle.wad2_lumps.specs.Lumps.{lump_in};
 ghost use Rattle.wad2_lumps.specs.Pictures.{pixels_end};
-ghost use Rattle.console_session.specs.Commands.{answer_acquire, answer_dump, answer_info, answer_pic, answer_wad, wad_image};
+ghost use Rattle.console_session.specs.Commands.{answer_acquire, answer_dump, answer_info, answer_map, answer_pic, answer_wad, wad_image};
 ghost use Rattle.console_session.specs.Holding.{Holds};
 ghost use Rattle.console_session.specs.Pictures.{picture_of};
 ghost use Rattle.console_session.specs.Serving.{seen, Does};
@@ -11,11 +11,12 @@ ghost use Rattle.console_session.specs.Serving.{seen, Does};
 use crate::console::Console;
 use crate::ends::{Fault, Next};
 use crate::replies::{
-    put_absent, put_acquired, put_bad_kind, put_bad_name, put_dump, put_info, put_no_wad,
+    put_absent, put_acquired, put_bad_kind, put_bad_name, put_dump, put_info, put_map, put_no_wad,
     put_not_wad, put_pic, put_refused, put_res,
 };
 use base_fields::GameName;
 use info_text::LumpError;
+use map_change::change_map;
 use mem_model::Store;
 use outside_io::{Folder, Sink};
 use res_table::{Kind, Table};
@@ -113,6 +114,28 @@ impl<M: Store, F: Folder> Console<M, F> {
             }
             _ => put_not_wad(out, &name),
         }
+    }
+
+    // Frees what lies behind the host level, and acquires the map of this file.
+    pub(super) fn change_map<O: Sink>(
+        &mut self,
+        file: Option<GameName>,
+        out: &mut O,
+    ) -> Result<Next, Fault>
+        requires holds { Holds (seen M.Store F.Folder self.old) }
+        ensures { Does M.Store F.Folder O.Sink (answer_map file) self.old self.new out.old out.new result }
+    {
+        let Some(file) = file else {
+            return put_bad_name(out);
+        };
+        let answer = change_map(
+            &mut self.store,
+            &mut self.table,
+            &mut self.paths,
+            self.level,
+            &file,
+        );
+        put_map(out, &file, answer)
     }
 
     // The image of the current wad, where it is there.

@@ -6,7 +6,7 @@ use Rattle.console_session.specs.Commands.{inserted_file, exec_text}
 use Rattle.console_session.specs.declared.console.Console.{Console}
 use Rattle.console_session.specs.States.{State}
 use Rattle.console_session.specs.Serving.{seen}
-use Rattle.console_session.proofs.Marking.{mark_within}
+use Rattle.map_change.proofs.Marking.{mark_within}
 use Rattle.console_session.proofs.Loading.{does_refused, does_loaded, exec_shape}
 use Rattle.console_session.proofs.console.Console.exec.Goals as goal
 

@@ -4,8 +4,8 @@ use Rattle.mem_model.proofs.Keeping.{Keeps-answer, Keeps-low_free}
 use Rattle.mem_model.proofs.Untouched.{zone-low_free}
 use Rattle.res_table.specs.Held.{lows_of}
 use Rattle.console_session.specs.Serving.{seen}
-use Rattle.console_session.specs.Holding.{IsLowMark}
-use Rattle.console_session.proofs.Marking.{mark_freed}
+use Rattle.map_change.specs.Marks.{IsLowMark}
+use Rattle.map_change.proofs.Marking.{mark_freed}
 use Rattle.console_session.proofs.Holding.{holds_memory, holds_buffer}
 use Rattle.console_session.proofs.console.Console.insert_loaded.Goals as goal
 

@@ -4,7 +4,7 @@ use Rattle.mem_model.specs.Told.{room_answer}
 use Rattle.mem_model.proofs.Keeping.{Keeps-all, Keeps-gives, Keeps-low_alloc}
 use Rattle.res_table.specs.Held.{lows_of}
 use Rattle.console_session.specs.Serving.{seen}
-use Rattle.console_session.proofs.Marking.{mark_given}
+use Rattle.map_change.proofs.Marking.{mark_given}
 use Rattle.console_session.proofs.Holding.{holds_memory, zone_after_low}
 use Rattle.console_session.proofs.Serving.{does_block}
 use Rattle.console_session.proofs.console.Console.reserve.Goals as goal

@@ -1,7 +1,5 @@
-use Rattle.std.proofs.Common.{rules, sym, subst}
-use Rattle.console_session.specs.Holding.{IsLowMark}
+use Rattle.std.proofs.Common.{rules}
 use Rattle.console_session.specs.Serving.{seen}
-use Rattle.console_session.proofs.Marking.{mark_at_end}
 use Rattle.console_session.proofs.Holding.{holds_level}
 use Rattle.console_session.proofs.console.Console.set_level.Goals as goal
 
@@ -11,7 +9,7 @@ returns g c =
     record {
       told = search rules;
       path = search rules;
-      holds = holds_level s _ c.requires.holds (subst (λ k. IsLowMark s.memory.low k) (sym c.low_mark-self.ensures.mark) (mark_at_end s.memory.low c.requires.holds.laid.low));
+      holds = holds_level s _ c.requires.holds c.set_level-self.ensures.level;
       causes = search rules;
       calls = search rules;
     }

@@ -3,8 +3,8 @@ use Rattle.mem_model.specs.Memory.{Memory}
 use Rattle.res_table.specs.Held.{AreHeld}
 use Rattle.res_table.specs.Resources.{Resources}
 use Rattle.res_table.proofs.Holding.{AreHeld-new}
-use Rattle.console_session.specs.Holding.{IsLowMark}
-use Rattle.console_session.proofs.Marking.{mark_at_end}
+use Rattle.map_change.specs.Marks.{IsLowMark}
+use Rattle.map_change.proofs.Marking.{mark_at_end}
 use Rattle.console_session.specs.Serving.{path_of}
 use Rattle.console_session.proofs.Holding.{holds_first, new_has_room}
 use Rattle.console_session.proofs.console.Console.start.Goals as goal
