@@ -2,11 +2,11 @@
 use Rattle.std.proofs.Common.{◌≡◌, ℕ, ◌-◌, List, [], ◌++◌, length, replicate, codes, Err, refl}
 use Rattle.base_fields.specs.Fields.{u32_in, u32_bytes}
 use Rattle.bsp29_tables.specs.declared.fault.BspFault.TheVariants.{Short, Version, LumpOutside, LumpSize, NoModel}
-use Rattle.bsp29_tables.specs.declared.fault.BspFault.TheVariants.{TextureTable, TextureOutside, Unbuilt, BadRow}
+use Rattle.bsp29_tables.specs.declared.fault.BspFault.TheVariants.{TextureTable, TextureOutside, BadRow}
 use Rattle.bsp29_tables.specs.Checks.{fine, each_from}
 use Rattle.bsp29_tables.specs.Lumps.{lump_of, rows_in, lump_check}
 use Rattle.bsp29_tables.specs.Textures.{texture_count, texture_offsets, pixels_at, all_pixels}
-use Rattle.bsp29_tables.specs.Textures.{table_check, texture_check, textures_check, animation_check, animations_check}
+use Rattle.bsp29_tables.specs.Textures.{table_check, texture_check, textures_check}
 use Rattle.bsp29_tables.specs.Rows.{counts_of}
 use Rattle.bsp29_tables.specs.Sizes.{section_size, image_size}
 use Rattle.bsp29_tables.specs.Order.{check_of}
@@ -77,7 +77,3 @@ no_pixels = refl
 shared_pixels : all_pixels (shared (codes "lava")) ≡ 680
 unfolding u32_in texture_count texture_offsets pixels_at
 shared_pixels = refl
-
-frame : animations_check (shared (codes "+0lava")) ≡ Err (Unbuilt 0)
-unfolding each_from u32_in texture_count texture_offsets animation_check
-frame = refl

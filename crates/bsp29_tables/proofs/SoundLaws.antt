@@ -1,7 +1,7 @@
 -- Exactly the sound files have no fault.
 use Rattle.std.proofs.Common.{◌≡◌, ℕ, ◌+◌, ◌≤◌, ◌⊎◌, inl, inr, Bool, true, false, not, ◌&&◌, ◌||◌}
-use Rattle.std.proofs.Common.{List, length, Some, refl, ap, arith}
-use Rattle.std.specs.Prelude.{◌==◌, nat_lt, slice_get}
+use Rattle.std.proofs.Common.{List, length, drop, Option, Some, None, refl, ap, arith}
+use Rattle.std.specs.Prelude.{◌==◌, nat_lt, slice_get, is_some, if◌then◌else◌}
 use Rattle.std.proofs.lemmas.Bool.Decides.{nat_tests, eqb_tells}
 use Rattle.bsp29_tables.specs.declared.lumps.Lump.{Lump}
 use Rattle.bsp29_tables.specs.declared.lumps.Lump.TheVariants.{Entities, Nodes, Texinfos, Faces, Clipnodes, Leafs}
@@ -10,9 +10,11 @@ use Rattle.bsp29_tables.specs.Checks.{Checked, fine, ◌⨾◌}
 use Rattle.bsp29_tables.specs.Lumps.{number_of, all_lumps, offset_of, length_of, lump_of, rows_of}
 use Rattle.bsp29_tables.specs.Lumps.{is_outside, header_tests, header_check, lump_tests}
 use Rattle.bsp29_tables.specs.Lumps.{lump_check, lumps_check, models_tests, models_check}
-use Rattle.bsp29_tables.specs.Textures.{texture_offsets, missing, is_frame, is_bad_side, HasTexture, IsSide}
+use Rattle.bsp29_tables.specs.Textures.{texture_offsets, missing, is_bad_side, HasTexture, IsSide}
 use Rattle.bsp29_tables.specs.Textures.{width_at, height_at, table_tests, table_check, texture_tests, texture_check}
-use Rattle.bsp29_tables.specs.Textures.{textures_check, animation_tests, animation_check, animations_check}
+use Rattle.bsp29_tables.specs.Textures.{textures_check}
+use Rattle.bsp29_tables.specs.Cycles.{name_at, is_animating, frame_of, lacking_of, animation_tests, animation_check}
+use Rattle.bsp29_tables.specs.Cycles.{animations_check, lacking_fault, frame_check, frames_check}
 use Rattle.bsp29_tables.specs.Rows.{counts_of, row_passes, row_tests, row_check, lump_rows_check}
 use Rattle.bsp29_tables.specs.Rows.{naming_lumps, rows_check}
 use Rattle.bsp29_tables.specs.Sizes.{size_tests, size_check}
@@ -120,21 +122,40 @@ table_fine lump (inr has) =
           (none_false (table_tests lump) (above _ _ has.count, (above _ _ has.few, (above _ _ has.offsets, tt))))
     ]
 
-still_told : (lump : List ℕ) (n at : ℕ) → animation_check lump n at ≡ fine
-    → (at ≡ missing) ⊎ (is_frame lump at ≡ false)
+told_here : (lump : List ℕ) (n at : ℕ) → animation_check lump n at ≡ fine → is_animating (name_at lump at) ≡ true
+    → is_some (frame_of (name_at lump at)) ≡ true
 unfolding animation_check
-still_told lump n at e =
-    let tests = all_false (animation_tests lump n at) e in
-    elim (eqb_tells at missing) [
-      | inl none ↦ inl none.1
-      | inr some ↦ inr (rw some.0 at tests.0)
-    ]
+told_here lump n at e animating =
+    is_true _ (second_false _ _ (all_false (animation_tests lump n at) e).0 animating)
 
-still_fine : (lump : List ℕ) (n at : ℕ) → (at ≡ missing) ⊎ (is_frame lump at ≡ false)
+told_fine : (lump : List ℕ) (n at : ℕ)
+    → (is_animating (name_at lump at) ≡ true → is_some (frame_of (name_at lump at)) ≡ true)
     → animation_check lump n at ≡ fine
 unfolding animation_check
-still_fine lump n at (inl none) = rw none refl
-still_fine lump n at (inr still) = none_false (animation_tests lump n at) (and_false _ _ (λ there. still), tt)
+told_fine lump n at told =
+    none_false (animation_tests lump n at) (and_false _ _ (λ animating. ap not (told animating)), tt)
+
+none_lacks : (animating : Bool) (n : ℕ) (lacking : Option ℕ)
+    → (if animating then lacking_fault n lacking else fine) ≡ fine → animating ≡ true → lacking ≡ None
+none_lacks true n None e is = refl
+none_lacks true n (Some frame) e is = absurd cc
+none_lacks false n lacking e is = absurd cc
+
+lacks_none : (animating : Bool) (n : ℕ) (lacking : Option ℕ) → (animating ≡ true → lacking ≡ None)
+    → (if animating then lacking_fault n lacking else fine) ≡ fine
+lacks_none true n lacking whole = ap (lacking_fault n) (whole refl)
+lacks_none false n lacking whole = refl
+
+whole_here : (lump : List ℕ) (n at : ℕ) → frame_check lump n at ≡ fine → is_animating (name_at lump at) ≡ true
+    → lacking_of lump (drop 2 (name_at lump at)) ≡ None
+unfolding frame_check
+whole_here lump n at e animating = none_lacks (is_animating (name_at lump at)) n _ e animating
+
+whole_fine : (lump : List ℕ) (n at : ℕ)
+    → (is_animating (name_at lump at) ≡ true → lacking_of lump (drop 2 (name_at lump at)) ≡ None)
+    → frame_check lump n at ≡ fine
+unfolding frame_check
+whole_fine lump n at whole = lacks_none (is_animating (name_at lump at)) n _ whole
 
 -- ---- rows
 
@@ -178,8 +199,9 @@ sound_from_fine bytes e =
     let textures = lump_of bytes Textures in
     let table = both_fine (table_check textures) _ models.1 in
     let each = both_fine (textures_check textures) _ table.1 in
-    let still = both_fine (animations_check textures) _ each.1 in
-    let rows = both_fine (rows_check bytes) _ still.1 in
+    let told = both_fine (animations_check textures) _ each.1 in
+    let whole = both_fine (frames_check textures) _ told.1 in
+    let rows = both_fine (rows_check bytes) _ whole.1 in
     let tests = all_false (header_tests bytes) header.0 in
     record {
       long = not_above _ _ tests.0;
@@ -189,7 +211,8 @@ sound_from_fine bytes e =
       textures = record {
         table = table_told textures table.0;
         inside = λ n at is. has_texture textures n at (checked_at _ (texture_offsets textures) n at each.0 is);
-        still = λ n at is. still_told textures n at (checked_at _ (texture_offsets textures) n at still.0 is);
+        told = λ n at is. told_here textures n at (checked_at _ (texture_offsets textures) n at told.0 is);
+        whole = λ n at is. whole_here textures n at (checked_at _ (texture_offsets textures) n at whole.0 is);
       };
       rows = rows_hold bytes rows.0;
       small = grind (arith, nat_tests, (all_false (size_tests bytes) rows.1).0);
@@ -223,12 +246,15 @@ fine_from_sound bytes is =
     let inside : textures_check textures ≡ fine =
     all_fine (texture_check textures) (texture_offsets textures)
     (λ n at is_at. texture_fine textures n at (is.textures.inside n at is_at)) in
-    let still : animations_check textures ≡ fine =
+    let told : animations_check textures ≡ fine =
     all_fine (animation_check textures) (texture_offsets textures)
-    (λ n at is_at. still_fine textures n at (is.textures.still n at is_at)) in
+    (λ n at is_at. told_fine textures n at (is.textures.told n at is_at)) in
+    let whole : frames_check textures ≡ fine =
+    all_fine (frame_check textures) (texture_offsets textures)
+    (λ n at is_at. whole_fine textures n at (is.textures.whole n at is_at)) in
     let rows : rows_check bytes ≡ fine =
     all_fine _ naming_lumps (λ n lump at. rows_fine bytes lump (is.rows lump)) in
     let size : size_check bytes ≡ fine =
     none_false (size_tests bytes) (grind (arith, nat_tests, is.small), tt) in
     then_fine _ _ header (then_fine _ _ lumps (then_fine _ _ models (then_fine _ _ table (then_fine _ _ inside
-    (then_fine _ _ still (then_fine _ _ rows size))))))
+    (then_fine _ _ told (then_fine _ _ whole (then_fine _ _ rows size)))))))

@@ -1,6 +1,8 @@
 pub mod Checks
 pub mod Lumps
 pub mod Textures
+pub mod Cycles
+pub mod Grouped
 pub mod Rows
 pub mod Sizes
 pub mod Order

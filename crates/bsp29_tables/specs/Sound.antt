@@ -1,11 +1,12 @@
 -- What a file is in which no fault is found.
-use Rattle.std.specs.Prelude.{◌≡◌, ◌≤◌, ◌<◌, ◌⊎◌, ℕ, ◌+◌, ◌*◌, ◌/◌, ◌%◌, ◌^◌, true, false}
-use Rattle.std.specs.Prelude.{List, length, slice_get, Some}
+use Rattle.std.specs.Prelude.{◌≡◌, ◌≤◌, ◌<◌, ◌⊎◌, ℕ, ◌+◌, ◌*◌, ◌/◌, ◌%◌, ◌^◌, true}
+use Rattle.std.specs.Prelude.{List, length, drop, slice_get, Some, None, is_some}
 use Rattle.base_fields.specs.Fields.{u32_in}
 use Rattle.bsp29_tables.specs.declared.lumps.Lump.{Lump}
 use Rattle.bsp29_tables.specs.declared.lumps.Lump.TheVariants.{Textures, Models}
 use Rattle.bsp29_tables.specs.Lumps.{row_size, offset_of, length_of, lump_of, rows_of, count_of, is_limited}
-use Rattle.bsp29_tables.specs.Textures.{texture_offsets, missing, is_frame, HasTexture}
+use Rattle.bsp29_tables.specs.Textures.{texture_offsets, HasTexture}
+use Rattle.bsp29_tables.specs.Cycles.{name_at, is_animating, frame_of, lacking_of}
 use Rattle.bsp29_tables.specs.Rows.{counts_of, row_passes}
 use Rattle.bsp29_tables.specs.Sizes.{image_size}
 
@@ -21,11 +22,14 @@ pub record HasOffsets (lump : List ℕ) : Type 0 where
   pub few : u32_in lump 0 ≤ 4096
   pub offsets : 4 * u32_in lump 0 + 4 ≤ length lump
 
--- each texture is missing, or lies in the lump and is no frame of an animation
+-- each texture is missing or lies in the lump, its frame is told where it is animating, and no group lacks a frame
 pub record HasTextures (lump : List ℕ) : Type 0 where
   pub table : (length lump ≡ 0) ⊎ HasOffsets lump
   pub inside : (n at : ℕ) → slice_get (texture_offsets lump) n ≡ Some at → HasTexture lump at
-  pub still : (n at : ℕ) → slice_get (texture_offsets lump) n ≡ Some at → (at ≡ missing) ⊎ (is_frame lump at ≡ false)
+  pub told : (n at : ℕ) → slice_get (texture_offsets lump) n ≡ Some at → is_animating (name_at lump at) ≡ true
+      → is_some (frame_of (name_at lump at)) ≡ true
+  pub whole : (n at : ℕ) → slice_get (texture_offsets lump) n ≡ Some at → is_animating (name_at lump at) ≡ true
+      → lacking_of lump (drop 2 (name_at lump at)) ≡ None
 
 -- the lumps are there, and what the rows name is
 pub record IsSound (bytes : List ℕ) : Type 0 where

@@ -1,10 +1,10 @@
 -- The texture lump: a count, an offset in the lump for each texture, and the textures.
-use Rattle.std.specs.Prelude.{◌≡◌, ◌≤◌, ◌⊎◌, ℕ, ◌+◌, ◌*◌, ◌/◌, ◌%◌, Bool, not, ◌&&◌, ◌||◌, nat_lt, ◌==◌, if◌then◌else◌}
-use Rattle.std.specs.Prelude.{List, [], ◌∷◌, length, map, slice_index, Option, Some, None}
+use Rattle.std.specs.Prelude.{◌≡◌, ◌≤◌, ◌⊎◌, ℕ, ◌+◌, ◌*◌, ◌/◌, ◌%◌, Bool, not, ◌||◌, nat_lt, ◌==◌, if◌then◌else◌}
+use Rattle.std.specs.Prelude.{List, [], ◌∷◌, length, map, Option, Some, None}
 use Rattle.std.specs.List.{range_with_len, sum_by}
 use Rattle.base_fields.specs.Fields.{u32_in}
 use Rattle.bsp29_tables.specs.declared.fault.BspFault.{BspFault}
-use Rattle.bsp29_tables.specs.declared.fault.BspFault.TheVariants.{TextureTable, TextureOutside, TextureSize, Unbuilt}
+use Rattle.bsp29_tables.specs.declared.fault.BspFault.TheVariants.{TextureTable, TextureOutside, TextureSize}
 use Rattle.bsp29_tables.specs.Checks.{Checked, fine, none_of, each_from}
 
 -- how many textures there are
@@ -34,10 +34,6 @@ height_at lump at = u32_in lump (at + 20)
 -- the picture, and the same with sides of a half, a quarter and an eighth: 85 bytes for each 64 pixels
 abbrev pub pixel_count : (width height : ℕ) → ℕ
 pixel_count width height = width * height / 64 * 85
-
--- the name of a frame of an animation begins with `+`
-abbrev pub is_frame : List ℕ → ℕ → Bool
-is_frame lump at = slice_index lump at == 43
 
 unfoldable pub pixels_at : List ℕ → ℕ → ℕ
 pixels_at lump at = if at == missing then 0 else pixel_count (width_at lump at) (height_at lump at)
@@ -89,12 +85,3 @@ texture_check lump texture at = if at == missing then fine else none_of (texture
 
 abbrev pub textures_check : List ℕ → Checked
 textures_check lump = each_from (texture_check lump) 0 (texture_offsets lump)
-
-abbrev pub animation_tests : List ℕ → ℕ → ℕ → List (Bool × BspFault)
-animation_tests lump texture at = (not (at == missing) && is_frame lump at, Unbuilt texture) ∷ []
-
-unfoldable pub animation_check : List ℕ → ℕ → ℕ → Checked
-animation_check lump texture at = none_of (animation_tests lump texture at)
-
-abbrev pub animations_check : List ℕ → Checked
-animations_check lump = each_from (animation_check lump) 0 (texture_offsets lump)

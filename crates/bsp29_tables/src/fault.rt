@@ -24,8 +24,12 @@ pub enum BspFault {
     /// The width or the height of the texture is no multiple of 16 or above 16384. It is tested before the next texture
     /// is.
     TextureSize { texture: u32 },
-    /// The name of the texture begins with `+`: it is a frame of an animation, and no animations are built.
-    Unbuilt { texture: u32 },
+    /// The name of the texture begins with `+`, so that it is a frame of an animation, but the byte behind it is neither
+    /// a digit nor a letter from A to J, large or small. All textures are tested before the next.
+    BadAnimation { texture: u32 },
+    /// An animation lacks a frame below its greatest digit or its greatest letter. The texture is the first of the
+    /// animation's; the frame is the least digit that is lacking, or else the least letter, as a capital.
+    MissingFrame { texture: u32, frame: u8 },
     /// The row names something that isn't there, or its contents aren't those of a leaf.
     BadRow { lump: u32, row: u32 },
     /// The image would have 2 ^ 31 bytes or more.

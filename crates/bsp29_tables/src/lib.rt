@@ -35,13 +35,18 @@
 ghost use Rattle.std.specs.Prelude.{◌≡◌};
 ghost use Rattle.bsp29_tables.specs.Order.{check_of};
 
+mod cycles;
 mod fault;
+mod groups;
 mod laws;
 mod lumps;
+mod names;
 mod rows;
 mod size;
 mod textures;
 
+pub use cycles::{Animations, Cycle};
+use cycles::{check_animations, check_frames};
 pub use fault::BspFault;
 pub use laws::{first_faults, sound_files};
 use lumps::{check_header, check_lumps, check_models};
@@ -50,7 +55,7 @@ use rows::check_rows;
 use size::check_size;
 pub use size::{image_size, section_size};
 pub use textures::{MISSING, pixels_at, texture_count, texture_offset};
-use textures::{check_animations, check_table, check_textures};
+use textures::{check_table, check_textures};
 
 /// The first fault of a brush model's file, in the order of [`BspFault`], if it has one.
 #[tactic(auto, unfolding(crate::specs::Order::check_of))]
@@ -64,6 +69,7 @@ pub fn check_bsp(src: &[u8]) -> Result<(), BspFault>
     check_table(textures)?;
     check_textures(textures)?;
     check_animations(textures)?;
+    check_frames(textures)?;
     check_rows(src)?;
     check_size(src)
 }

@@ -80,6 +80,10 @@ fn large(alloc: Global, length: usize, words: &[(usize, u32)]) -> Result<Vec<u8>
     Ok(file)
 }
 
+fn missing(frame: u8) -> BspFault {
+    BspFault::MissingFrame { texture: 0, frame }
+}
+
 fn bad_row(lump: u32, row: u32) -> BspFault {
     BspFault::BadRow { lump, row }
 }
@@ -113,7 +117,12 @@ fn refuses_by_the_one_fault(rt: HostRuntime) {
         (44, 8, BspFault::TextureSize { texture: 0 }),
         (44, 16_400, BspFault::TextureSize { texture: 0 }),
         (44, 16, BspFault::TextureOutside { texture: 0 }),
-        (39, 0x6c61_772b, BspFault::Unbuilt { texture: 0 }),
+        (39, 0x6c61_772b, BspFault::BadAnimation { texture: 0 }),
+        (39, 0x6c61_6b2b, BspFault::BadAnimation { texture: 0 }),
+        (39, 0x6c61_002b, BspFault::BadAnimation { texture: 0 }),
+        (39, 0x6c61_322b, missing(b'0')),
+        (39, 0x6c61_422b, missing(b'A')),
+        (39, 0x6c61_6a2b, missing(b'A')),
     ];
     for (at, word, fault) in cases {
         let file = changed(rt.alloc(), &[(at, word)]).expect(&rt, "memory");
@@ -161,13 +170,21 @@ fn refuses_bad_rows(rt: HostRuntime) {
 // Of two faults the first is told.
 #[test]
 fn refuses_by_the_first_fault(rt: HostRuntime) {
-    let cases: [(&[(usize, u32)], BspFault); 10] = [
+    let cases: [(&[(usize, u32)], BspFault); 12] = [
         (&[(3, 476), (4, 19)], BspFault::LumpOutside { lump: 1 }),
         (&[(4, 19), (1, 476)], BspFault::LumpOutside { lump: 0 }),
         (&[(5, 476), (4, 19)], BspFault::LumpSize { lump: 1 }),
         (&[(37, 4097), (30, 0)], BspFault::NoModel),
         (&[(39, 0x2b), (43, 8)], BspFault::TextureSize { texture: 0 }),
-        (&[(53, 1), (39, 0x2b)], BspFault::Unbuilt { texture: 0 }),
+        (
+            &[(39, 0x322b), (43, 8)],
+            BspFault::TextureSize { texture: 0 },
+        ),
+        (
+            &[(53, 1), (39, 0x2b)],
+            BspFault::BadAnimation { texture: 0 },
+        ),
+        (&[(53, 1), (39, 0x322b)], missing(b'0')),
         (&[(6, 4), (37, 0)], bad_row(6, 0)),
         (&[(67, 1), (53, 1)], bad_row(5, 0)),
         (&[(69, 1), (67, 1)], bad_row(6, 0)),
@@ -181,8 +198,11 @@ fn refuses_by_the_first_fault(rt: HostRuntime) {
 
 #[test]
 fn takes_what_is_sound(rt: HostRuntime) {
-    let cases: [&[(usize, u32)]; 8] = [
+    let cases: [&[(usize, u32)]; 10] = [
         &[],
+        // an animation of one frame
+        &[(39, 0x6c61_302b)],
+        &[(39, 0x6c61_612b)],
         // an empty lump passes no end, and without a texture lump each texinfo passes
         &[(1, 0xffff_ffff), (2, 0)],
         &[(6, 0), (67, 7)],
@@ -261,5 +281,125 @@ fn refuses_what_is_too_large(rt: HostRuntime) {
     for (entities, want) in [(382_227, Ok(())), (382_228, Err(BspFault::TooLarge))] {
         let file = shared(rt.alloc(), entities).expect(&rt, "memory");
         assert_eq!(rt; check_bsp(&file), want);
+    }
+}
+
+// A texture lump of these names, without pixels.
+fn named(alloc: Global, names: &[&[u8]]) -> Result<Vec<u8>, AllocError> {
+    let count = names.len().min(4096) as u32;
+    let mut lump = Vec::new(alloc);
+    lump.extend_from_slice(&count.to_le_bytes())?;
+    for texture in 0..count {
+        lump.extend_from_slice(&(4 * count + 4 + 40 * texture).to_le_bytes())?;
+    }
+    for name in names {
+        let mut bytes = [0; 40];
+        let length = name.len().min(16);
+        bytes[..length].copy_from_slice(&name[..length]);
+        lump.extend_from_slice(&bytes)?;
+    }
+    Ok(lump)
+}
+
+// The total, the least and the greatest time, the next frame and the first one of the other animation.
+fn told(lump: &[u8], texture: u32) -> Option<(u32, u32, u32, Option<u32>, Option<u32>)> {
+    match check_table(lump) {
+        Ok(()) => match check_textures(lump) {
+            Ok(()) if texture < texture_count(lump) => {
+                let cycle = Animations::find(lump).cycle(texture)?;
+                Some((
+                    cycle.total,
+                    cycle.least,
+                    cycle.greatest,
+                    cycle.next,
+                    cycle.alternate,
+                ))
+            }
+            _ => None,
+        },
+        Err(_) => None,
+    }
+}
+
+#[test]
+fn tells_cycles(rt: HostRuntime) {
+    let lump = named(
+        rt.alloc(),
+        &[
+            b"wall", b"+0slip", b"+a", b"+1slip", b"+1", b"+0", b"+B", b"+1slip", b"+0slip2", b"+c",
+        ],
+    )
+    .expect(&rt, "memory");
+    let cases = [
+        (0, None),
+        (1, Some((4, 0, 2, Some(7), None))),
+        (3, None),
+        (7, Some((4, 2, 4, Some(1), None))),
+        (8, Some((2, 0, 2, Some(8), None))),
+        (5, Some((4, 0, 2, Some(4), Some(2)))),
+        (4, Some((4, 2, 4, Some(5), Some(2)))),
+        (2, Some((6, 0, 2, Some(6), Some(5)))),
+        (6, Some((6, 2, 4, Some(9), Some(5)))),
+        (9, Some((6, 4, 6, Some(2), Some(5)))),
+    ];
+    for (texture, want) in cases {
+        assert_eq!(rt; told(&lump, texture), want, "{texture}");
+    }
+}
+
+#[test]
+fn tells_the_first_group_that_lacks_a_frame(rt: HostRuntime) {
+    let cases: [(&[&[u8]], u32, u8); 5] = [
+        (
+            &[b"wall", b"+0x", b"+dx", b"+0y", b"+2y", b"+1x", b"+ax"],
+            1,
+            b'B',
+        ),
+        (&[b"+bx", b"+2x", b"+0x"], 0, b'1'),
+        (&[b"+0y", b"+9y", b"+0x", b"+2x"], 0, b'1'),
+        (&[b"+0x\x00a", b"+1x\x00b", b"+3x\x00c"], 0, b'2'),
+        (&[b"+0x", b"+1xx"], 1, b'0'),
+    ];
+    for (names, texture, frame) in cases {
+        let lump = named(rt.alloc(), names).expect(&rt, "memory");
+        assert_eq!(rt;
+            check_lump_frames(&lump),
+            Err(BspFault::MissingFrame { texture, frame })
+        );
+    }
+}
+
+fn check_lump_frames(lump: &[u8]) -> Result<(), BspFault> {
+    check_table(lump)?;
+    check_textures(lump)?;
+    check_frames(lump)
+}
+
+// 4096 textures, each of which is the only frame of its animation, or all of them the same frame.
+fn animated(alloc: Global, is_alone: bool) -> Result<Vec<u8>, AllocError> {
+    let mut file = large(alloc, 180_416, &[(5, 188), (6, 180_228)])?;
+    put_words(&mut file, &[(47, 4096)]);
+    for texture in 0..4096 {
+        let number = if is_alone { texture } else { 0 };
+        let name = 0x4040_4040 + number % 64 + number / 64 * 256;
+        let at = 10 * texture as usize;
+        let words = [
+            (48 + texture as usize, 16_388 + 40 * texture),
+            (4144 + at, 0x4040_302b),
+            (4145 + at, name),
+        ];
+        put_words(&mut file, &words);
+    }
+    Ok(file)
+}
+
+#[test]
+fn finds_many_groups(rt: HostRuntime) {
+    for is_alone in [true, false] {
+        let file = animated(rt.alloc(), is_alone).expect(&rt, "memory");
+        assert_eq!(rt; check_bsp(&file), Ok(()));
+        let last = told(&file[188..], 4095);
+        assert_eq!(rt; last, Some((2, 0, 2, Some(4095), None)));
+        assert_eq!(rt; told(&file[188..], 0).is_some(), is_alone);
     }
 }

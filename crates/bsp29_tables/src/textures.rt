@@ -1,9 +1,8 @@
 // The texture lump.
 ghost use Rattle.std.specs.Prelude.{◌≡◌, ◌≤◌, ◌<◌, ◌^◌, length, slice_index};
 ghost use Rattle.bsp29_tables.specs.Checks.{fine};
-ghost use Rattle.bsp29_tables.specs.Textures.{texture_count, told_count, texture_offsets, is_bad_side, is_frame};
+ghost use Rattle.bsp29_tables.specs.Textures.{texture_count, told_count, texture_offsets, is_bad_side};
 ghost use Rattle.bsp29_tables.specs.Textures.{table_check, texture_check, textures_check};
-ghost use Rattle.bsp29_tables.specs.Textures.{animation_check, animations_check};
 ghost use Rattle.bsp29_tables.specs.Textures.{pixel_count, pixels_at, all_pixels, HasTexture};
 
 use crate::fault::BspFault;
@@ -111,35 +110,6 @@ pub(crate) fn check_textures(lump: &[u8]) -> Result<(), BspFault>
 {
     for texture in 0..texture_count(lump) {
         check_texture(lump, texture, texture_offset(lump, texture))?;
-    }
-    Ok(())
-}
-
-fn is_frame(lump: &[u8], at: u32) -> bool
-    ensures { result ≡ is_frame lump.now at }
-{
-    let at = at as usize;
-    at < lump.len() && lump[at] == b'+'
-}
-
-// A texture is no frame of an animation.
-#[tactic(auto, unfolding(crate::specs::Textures::animation_check))]
-fn check_animation(lump: &[u8], texture: u32, at: u32) -> Result<(), BspFault>
-    ensures { result ≡ animation_check lump.now texture at }
-{
-    if at != MISSING && is_frame(lump, at) {
-        return Err(BspFault::Unbuilt { texture });
-    }
-    Ok(())
-}
-
-// The textures once more, one by one.
-pub(crate) fn check_animations(lump: &[u8]) -> Result<(), BspFault>
-    requires { table_check lump.now ≡ fine }
-    ensures { result ≡ animations_check lump.now }
-{
-    for texture in 0..texture_count(lump) {
-        check_animation(lump, texture, texture_offset(lump, texture))?;
     }
     Ok(())
 }

@@ -6,5 +6,6 @@ returns c = record {
   lump = λ bytes fault e. first_is _ _ fault e;
   texture = λ lump fault e. first_is _ _ fault e;
   animation = λ lump fault e. first_is _ _ fault e;
+  frame = λ lump fault e. first_is _ _ fault e;
   row = λ bytes lump fault e. first_is _ _ fault e;
 }

@@ -3,7 +3,12 @@ use Rattle.std.proofs.lemmas.Result.{err_from_is_err_and}
 use Rattle.bsp29_tables.specs.Textures.{texture_offsets}
 use Rattle.bsp29_tables.proofs.Checking.{passed_more, failed_here, passed_all}
 use Rattle.bsp29_tables.proofs.Cutting.{length-texture_offsets}
-use Rattle.bsp29_tables.proofs.textures.check_animations.Goals as goal
+use Rattle.bsp29_tables.proofs.TextureLaws.{texture_inside}
+use Rattle.bsp29_tables.proofs.cycles.check_animations.Goals as goal
+
+pub check_animation-requires : goal.check_animation-requires
+check_animation-requires c =
+    rw c.texture_offset.ensures (texture_inside c.args.lump.now c.loop-texture.texture c.requires.textures (omega arith))
 
 pub returns-in_err-check_animation : goal.returns-in_err-check_animation
 returns-in_err-check_animation c =

@@ -1,0 +1,33 @@
+use Rattle.std.proofs.Common.{◌<◌, length, sym, ◌∙◌, arith}
+use Rattle.std.proofs.lemmas.Result.{err_from_is_err_and}
+use Rattle.bsp29_tables.specs.Textures.{texture_offsets}
+use Rattle.bsp29_tables.proofs.Checking.{passed_more, failed_here, passed_all}
+use Rattle.bsp29_tables.proofs.Cutting.{length-texture_offsets}
+use Rattle.bsp29_tables.proofs.TextureLaws.{texture_inside}
+use Rattle.bsp29_tables.proofs.cycles.check_frames.Goals as goal
+
+pub check_frame-requires : goal.check_frame-requires
+check_frame-requires c =
+    rw (c.find-animations.ensures, c.texture_offset.ensures)
+    (texture_inside c.args.lump.now c.loop-texture.texture c.requires.textures (omega arith))
+
+pub returns-in_err-check_frame : goal.returns-in_err-check_frame
+returns-in_err-check_frame c =
+    let p = err_from_is_err_and c.from_residual.result c.from_residual.ensures.1 in
+    let offsets = texture_offsets c.args.lump.now in
+    let below : c.loop-texture.texture < length offsets = rw length-texture_offsets (omega arith) in
+    rw (p.1, p.2)
+    (sym (failed_here 0 _ c.loop-texture.invariant below
+    (rw (← c.texture_offset.ensures)
+    (rw c.find-animations.ensures at (sym c.check_frame.ensures) ∙ c.in_err-check_frame.was))))
+
+pub loop-texture-preserved : goal.loop-texture-preserved
+loop-texture-preserved c =
+    let offsets = texture_offsets c.args.lump.now in
+    let below : c.loop-texture.texture < length offsets = rw length-texture_offsets (omega arith) in
+    passed_more 0 c.loop-texture.invariant below
+    (rw (← c.texture_offset.ensures)
+    (rw c.find-animations.ensures at (sym c.check_frame.ensures) ∙ c.in_ok-check_frame.was))
+
+pub returns : goal.returns
+returns c = sym (passed_all c.loop-texture.invariant (rw length-texture_offsets (omega arith)))
