@@ -34,6 +34,14 @@ pub record IsBrush (image : List ℕ) : Type 0 where
 abbrev pub visleafs_told : (image : List ℕ) → ℕ
 visleafs_told image = u32_in image (offset_told image 14 + 52)
 
+-- the row of a leaf
+abbrev pub leaf_told : (image : List ℕ) → (leaf : ℕ) → List ℕ
+leaf_told image leaf = field 32 image (offset_told image 10 + 32 * leaf)
+
+-- the bytes of all rows of visibility
+abbrev pub visibility_told : (image : List ℕ) → List ℕ
+visibility_told image = field (count_told image 4) image (offset_told image 4)
+
 -- a number, or none
 abbrev pub number_told : ℕ → Option ℕ
 number_told number = if number == missing then None else Some number

@@ -31,7 +31,7 @@ mod sections;
 mod textures;
 
 pub use builder::BspBuilder;
-pub use readers::{BrushTexture, count, offset, texture, visleafs};
+pub use readers::{BrushTexture, count, leaf, offset, texture, visibility, visleafs};
 
 #[cfg(test)]
 mod tests;

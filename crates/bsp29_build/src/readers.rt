@@ -1,7 +1,7 @@
 // What an image tells of its model.
 ghost use Rattle.std.specs.Prelude.{◌≡◌, ◌<◌, ◌≤◌, ◌+◌, length};
 ghost use Rattle.base_fields.specs.Fields.{u32_in};
-ghost use Rattle.bsp29_build.specs.Readers.{offset_told, count_told, visleafs_told};
+ghost use Rattle.bsp29_build.specs.Readers.{offset_told, count_told, visleafs_told, leaf_told, visibility_told};
 ghost use Rattle.bsp29_build.specs.Readers.{number_told, texture_in, texture_told, IsBrush, TellsSections};
 
 use base_fields::u32_at;
@@ -55,9 +55,32 @@ pub fn count(image: &[u8], section: u32) -> u32
 #[tactic(auto, using(crate::proofs::ReaderLaws::reader_laws))]
 pub fn visleafs(image: &[u8]) -> u32
     requires { IsBrush image.now }
-    ensures { result ≡ visleafs_told image.now }
+    ensures told { result ≡ visleafs_told image.now }
+    ensures few { result ≤ 32768 }
 {
     u32_at(image, offset(image, 14) as usize + 52)
+}
+
+/// The row of a leaf: 32 bytes.
+#[tactic(auto, using(crate::proofs::ReaderLaws::reader_laws))]
+pub fn leaf(image: &[u8], number: u32) -> &[u8]
+    requires image { IsBrush image.now }
+    requires below { number < count_told image.now 10 }
+    ensures fields { result.now ≡ leaf_told image.now number }
+    ensures length { length result.now ≡ 32 }
+{
+    let start = offset(image, 10) as usize + 32 * number as usize;
+    &image[start..start + 32]
+}
+
+/// The bytes of all rows of visibility.
+#[tactic(auto, using(crate::proofs::ReaderLaws::reader_laws))]
+pub fn visibility(image: &[u8]) -> &[u8]
+    requires { IsBrush image.now }
+    ensures { result.now ≡ visibility_told image.now }
+{
+    let start = offset(image, 4) as usize;
+    &image[start..start + count(image, 4) as usize]
 }
 
 // A number, or none.
