@@ -54,11 +54,13 @@ texture_in fields =
       name = field 16 fields 4;
       width = u32_in fields 20;
       height = u32_in fields 24;
-      total = u32_in fields 44;
-      least = u32_in fields 48;
-      greatest = u32_in fields 52;
-      next = number_told (u32_in fields 56);
-      alternate = number_told (u32_in fields 60);
+      cycle = record {
+        total = u32_in fields 44;
+        least = u32_in fields 48;
+        greatest = u32_in fields 52;
+        next = number_told (u32_in fields 56);
+        alternate = number_told (u32_in fields 60);
+      };
     })
 
 -- the texture of a number

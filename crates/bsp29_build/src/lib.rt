@@ -9,9 +9,9 @@
 //! - a plane has 24 bytes: its 20, and a word with a bit for each part of its normal that is below zero, which a zero
 //!   with a sign isn't;
 //! - a texture has a row of 68 bytes: 1, its name of 16 bytes with zeros behind its first zero byte, its width, its
-//!   height, its four offsets, five numbers of an animation (a total, a least and a greatest time, the next texture and
-//!   the alternate one), and where its pixels begin in the image. The row of a missing texture is zeros. The pixels of
-//!   all textures stand behind the rows;
+//!   height, its four offsets, the five numbers of its place in an animation (a total, a least and a greatest time, the
+//!   next texture and the alternate one: 0 and none where it has no place), and where its pixels begin in the image. The
+//!   row of a missing texture is zeros. The pixels of all textures stand behind the rows;
 //! - a node has 28 bytes and a leaf 32: the row, and the least node that has it as a child;
 //! - a face has 24 bytes: its 20, and its kind, which is 1 where the name of its texture begins with `sky`, 2 where it
 //!   begins with `*`, and else 0.

@@ -5,7 +5,7 @@ ghost use Rattle.bsp29_build.specs.Readers.{offset_told, count_told, visleafs_to
 ghost use Rattle.bsp29_build.specs.Readers.{number_told, texture_in, texture_told, IsBrush, TellsSections};
 
 use base_fields::u32_at;
-use bsp29_tables::MISSING;
+use bsp29_tables::{Cycle, MISSING};
 
 /// A texture of a brush model.
 #[derive(Clone, Copy, Debug, PartialEq, Eq)]
@@ -16,16 +16,8 @@ pub struct BrushTexture {
     pub width: u32,
     /// The height of its picture in pixels.
     pub height: u32,
-    /// How long its animation goes, in tenths of a second, or 0 where it is no frame of one.
-    pub total: u32,
-    /// The time in its animation from which on it is shown.
-    pub least: u32,
-    /// The time in its animation before which it is shown.
-    pub greatest: u32,
-    /// The number of the next frame of its animation.
-    pub next: Option<u32>,
-    /// The number of the first frame of the other animation, which is shown in its place while it is switched over.
-    pub alternate: Option<u32>,
+    /// Its place in its animation: times of 0 and no textures where it has none.
+    pub cycle: Cycle,
 }
 
 /// Where a section begins in the image of a brush model. Sections 0 to 14 are those of the lumps, and 15 is hull 0.
@@ -108,11 +100,13 @@ fn read_texture(row: &[u8]) -> Option<BrushTexture>
         name,
         width: u32_at(row, 20),
         height: u32_at(row, 24),
-        total: u32_at(row, 44),
-        least: u32_at(row, 48),
-        greatest: u32_at(row, 52),
-        next: number_at(row, 56),
-        alternate: number_at(row, 60),
+        cycle: Cycle {
+            total: u32_at(row, 44),
+            least: u32_at(row, 48),
+            greatest: u32_at(row, 52),
+            next: number_at(row, 56),
+            alternate: number_at(row, 60),
+        },
     })
 }
 

@@ -11,6 +11,6 @@ returns c =
       c.split_at.ensures.front,
       c.copy_from_slice.ensures.after,
       c.split_at.ensures.back,
-      c.copy_from_slice-2.ensures.after,
+      c.put_animation.ensures,
       c.fill_u32-2.ensures,
     ) refl

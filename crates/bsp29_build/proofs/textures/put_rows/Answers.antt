@@ -27,7 +27,7 @@ loop-texture-preserved c =
     let here = rw c.texture_offset-at.ensures at c.pixels_at-pixels.ensures in
     let long : length c.put_row.new.row ≡ 68 =
     c.put_row.auto.row ∙ simp (length-take, length-drop) (omega (arith, l.auto.out, c.requires.room)) in
-    let is = rw c.texture_offset-at.ensures at c.put_row.ensures in
+    let is = rw (c.texture_offset-at.ensures, c.unwrap_or-cycle.ensures, c.cycle.ensures, c.find-animations.ensures) at c.put_row.ensures in
     record {
       text = rw here (row_written lump l.out c.put_row.new.row _ l.pixels l.texture (l.texture * 68) _ ((l.texture + 1) * 68)
           (omega arith) l.invariant.text is (omega (arith, long)) (omega (arith, l.auto.out, c.requires.room)));
