@@ -5,11 +5,12 @@ use Rattle.outside_io.specs.Streams.{Adds, AddsFront}
 use Rattle.outside_io.specs.declared.outside.Sink.{Ghosts as SinkGhosts}
 use Rattle.outside_io.specs.declared.outside.SinkFailed.{SinkFailed}
 use Rattle.reply_pieces.specs.declared.Piece.{Piece}
-use Rattle.reply_pieces.specs.declared.Piece.TheVariants.{Text, Number}
+use Rattle.reply_pieces.specs.declared.Piece.TheVariants.{Text, Byte, Number}
 
 -- what a piece prints
 abbrev pub piece_text : Piece → List ℕ
 piece_text (Text text) = text.now
+piece_text (Byte byte) = byte ∷ []
 piece_text (Number n) = decimal n
 
 -- what pieces print, one after another

@@ -7,10 +7,11 @@ ghost use Rattle.reply_pieces.specs.Pieces.{piece_text, text_of, PutsText};
 use itoa::Buffer;
 use outside_io::{Sink, SinkFailed};
 
-/// A piece of a reply: bytes as they are, or a number in decimal digits.
+/// A piece of a reply: bytes or one byte as they are, or a number in decimal digits.
 #[derive(Clone, Copy)]
 pub enum Piece<'a> {
     Text(&'a [u8]),
+    Byte(u8),
     Number(u64),
 }
 
@@ -27,6 +28,7 @@ fn put_piece<O: Sink>(out: &mut O, piece: &Piece) -> Result<(), SinkFailed>
 {
     match piece {
         Piece::Text(text) => out.put(text),
+        Piece::Byte(byte) => out.put(&[*byte]),
         Piece::Number(number) => put_number(out, *number),
     }
 }
