@@ -22,9 +22,10 @@ surfaces_text image = joined (codes " marksurfaces " ∷ decimal (count_told ima
 -- a texture with a name that is shown
 abbrev pub texture_line : (number : ℕ) → (name : List ℕ) → BrushTexture → List ℕ
 texture_line number name t = joined (codes "texture " ∷ decimal number ∷ codes " " ∷ name
-    ∷ codes " " ∷ decimal t.width ∷ codes " " ∷ decimal t.height ∷ codes " total " ∷ decimal t.total
-    ∷ codes " min " ∷ decimal t.least ∷ codes " max " ∷ decimal t.greatest
-    ∷ codes " next " ∷ number_or_none t.next ∷ codes " alternate " ∷ number_or_none t.alternate ∷ codes "\n" ∷ [])
+    ∷ codes " " ∷ decimal t.width ∷ codes " " ∷ decimal t.height ∷ codes " total " ∷ decimal t.cycle.total
+    ∷ codes " min " ∷ decimal t.cycle.least ∷ codes " max " ∷ decimal t.cycle.greatest
+    ∷ codes " next " ∷ number_or_none t.cycle.next ∷ codes " alternate " ∷ number_or_none t.cycle.alternate
+    ∷ codes "\n" ∷ [])
 
 -- what a texture tells, where it isn't missing
 abbrev pub texture_text : (number : ℕ) → Option BrushTexture → List ℕ

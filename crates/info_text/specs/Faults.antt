@@ -67,7 +67,9 @@ brush_wrong brush.NoModel = codes "no model"
 brush_wrong brush.TextureTable = codes "texture table"
 brush_wrong (brush.TextureOutside texture) = of_number (codes "texture ") texture (codes " outside")
 brush_wrong (brush.TextureSize texture) = of_number (codes "texture ") texture (codes " size")
-brush_wrong (brush.Unbuilt texture) = of_number (codes "texture ") texture (codes " not built")
+brush_wrong (brush.BadAnimation texture) = of_number (codes "texture ") texture (codes " bad animation")
+brush_wrong (brush.MissingFrame texture frame) =
+    joined (codes "texture " ∷ decimal texture ∷ codes " missing frame " ∷ (frame ∷ []) ∷ [])
 brush_wrong (brush.BadRow lump row) = joined (codes "lump " ∷ decimal lump ∷ codes " row " ∷ decimal row ∷ [])
 brush_wrong brush.TooLarge = codes "too large"
 

@@ -1,7 +1,7 @@
 // What is wrong with the bytes of a file that are no resource.
 ghost use Rattle.std.specs.Prelude.{◌≡◌, ◌++◌};
 ghost use Rattle.reply_pieces.specs.Pieces.{text_of};
-ghost use Rattle.bsp29_tables.specs.declared.fault.BspFault.TheVariants.{BadRow};
+ghost use Rattle.bsp29_tables.specs.declared.fault.BspFault.TheVariants.{BadRow, MissingFrame};
 ghost use Rattle.info_text.specs.Faults.{brush_wrong, of_number, alias_wrong, fault_text, field_text, numbered, part_text};
 ghost use Rattle.info_text.specs.Faults.{row_text, sprite_wrong, wad_wrong, wav_wrong};
 
@@ -111,6 +111,17 @@ fn in_lump(lump: u32, row: u32) -> [Piece<'static>; 4]
     ]
 }
 
+fn without_frame(texture: u32, frame: u8) -> [Piece<'static>; 4]
+    ensures { text_of result ≡ brush_wrong (MissingFrame texture frame) }
+{
+    [
+        Piece::Text(b"texture "),
+        Piece::Number(u64::from(texture)),
+        Piece::Text(b" missing frame "),
+        Piece::Byte(frame),
+    ]
+}
+
 fn brush_pieces(fault: BspFault) -> [Piece<'static>; 4]
     ensures { text_of result ≡ brush_wrong fault }
 {
@@ -124,7 +135,8 @@ fn brush_pieces(fault: BspFault) -> [Piece<'static>; 4]
         BspFault::TextureTable => word(b"texture table"),
         BspFault::TextureOutside { texture } => of_number(b"texture ", texture, b" outside"),
         BspFault::TextureSize { texture } => of_number(b"texture ", texture, b" size"),
-        BspFault::Unbuilt { texture } => of_number(b"texture ", texture, b" not built"),
+        BspFault::BadAnimation { texture } => of_number(b"texture ", texture, b" bad animation"),
+        BspFault::MissingFrame { texture, frame } => without_frame(texture, frame),
         BspFault::BadRow { lump, row } => in_lump(lump, row),
         BspFault::TooLarge => word(b"too large"),
     }

@@ -82,8 +82,9 @@ fn put_title<O: Sink>(name: &GameName, fault: Fault, out: &mut O) -> Result<(), 
 /// Puts `bad KIND NAME: FAULT` of a file whose bytes are no resource of their kind.
 ///
 /// - Of a brush model the fault is `short`, `version V` with the version that was found, `lump I outside`, `lump I size`,
-///   `lump I too many`, `no model`, `texture table`, `texture I outside`, `texture I size`, `texture I not built`,
-///   `lump I row R` or `too large`, with the number of the lump or the texture and that of the row, from 0 on.
+///   `lump I too many`, `no model`, `texture table`, `texture I outside`, `texture I size`, `texture I bad animation`,
+///   `texture I missing frame F` with the frame's digit or capital letter, `lump I row R` or `too large`, with the number
+///   of the lump or the texture and that of the row, from 0 on.
 /// - Of an alias model it is `short`, `version V` with the version that was found, `header FIELD` (`numskins`,
 ///   `skinwidth`, `skinheight`, `numverts`, `numtris` or `numframes`), `truncated PART` (`skin`, `st`, `triangle` or
 ///   `frame`), `group PART R`, `interval PART R`, or `triangle R`. R is the row in the part, from 0 on.
