@@ -2,6 +2,7 @@
 use Rattle.std.proofs.Common.{◌≡◌, ℕ, ◌+◌, ◌≤◌, ◌⊎◌, inl, inr, Bool, true, false, not, ◌&&◌, ◌||◌}
 use Rattle.std.proofs.Common.{List, length, drop, Option, Some, None, refl, ap, arith}
 use Rattle.std.specs.Prelude.{◌==◌, nat_lt, slice_get, is_some, if◌then◌else◌}
+use Rattle.std.specs.Option.{option_or}
 use Rattle.std.proofs.lemmas.Bool.Decides.{nat_tests, eqb_tells}
 use Rattle.bsp29_tables.specs.declared.lumps.Lump.{Lump}
 use Rattle.bsp29_tables.specs.declared.lumps.Lump.TheVariants.{Entities, Nodes, Texinfos, Faces, Clipnodes, Leafs}
@@ -13,14 +14,16 @@ use Rattle.bsp29_tables.specs.Lumps.{lump_check, lumps_check, models_tests, mode
 use Rattle.bsp29_tables.specs.Textures.{texture_offsets, missing, is_bad_side, HasTexture, IsSide}
 use Rattle.bsp29_tables.specs.Textures.{width_at, height_at, table_tests, table_check, texture_tests, texture_check}
 use Rattle.bsp29_tables.specs.Textures.{textures_check}
-use Rattle.bsp29_tables.specs.Cycles.{name_at, is_animating, frame_of, lacking_of, animation_tests, animation_check}
+use Rattle.bsp29_tables.specs.Cycles.{name_at, is_animating, frame_of, frames_of, lacking_below, lacking_of}
+use Rattle.bsp29_tables.specs.Cycles.{animation_tests, animation_check}
 use Rattle.bsp29_tables.specs.Cycles.{animations_check, lacking_fault, frame_check, frames_check}
 use Rattle.bsp29_tables.specs.Rows.{counts_of, row_passes, row_tests, row_check, lump_rows_check}
 use Rattle.bsp29_tables.specs.Rows.{naming_lumps, rows_check}
 use Rattle.bsp29_tables.specs.Sizes.{size_tests, size_check}
 use Rattle.bsp29_tables.specs.Order.{check_of}
-use Rattle.bsp29_tables.specs.Sound.{IsLump, HasOffsets, IsSound}
+use Rattle.bsp29_tables.specs.Sound.{IsLump, HasOffsets, HasFrames, IsSound}
 use Rattle.bsp29_tables.proofs.Checking.{all_false, none_false, both_fine, checked_at, all_fine}
+use Rattle.bsp29_tables.proofs.FrameLaws.{whole_from_none, none_from_whole}
 use Rattle.bsp29_tables.proofs.TextureLaws.{not_above, has_texture, has_table}
 
 -- ---- the tests that are false
@@ -146,16 +149,36 @@ lacks_none : (animating : Bool) (n : ℕ) (lacking : Option ℕ) → (animating 
 lacks_none true n lacking whole = ap (lacking_fault n) (whole refl)
 lacks_none false n lacking whole = refl
 
+both_none : (a b : Option ℕ) → option_or a b ≡ None → (a ≡ None) × (b ≡ None)
+both_none None b e = (refl, e)
+both_none (Some frame) b e = absurd cc
+
+frames_told : (lump rest : List ℕ) → lacking_of lump rest ≡ None → HasFrames lump rest
+unfolding lacking_of
+frames_told lump rest e =
+    let none = both_none (lacking_below 48 (frames_of lump rest 48)) (lacking_below 65 (frames_of lump rest 65)) e in
+    record { digits = whole_from_none 48 _ none.0; letters = whole_from_none 65 _ none.1 }
+
+frames_fine : (lump rest : List ℕ) → HasFrames lump rest → lacking_of lump rest ≡ None
+unfolding lacking_of
+frames_fine lump rest has =
+    rw (
+      none_from_whole 48 (frames_of lump rest 48) has.digits,
+      none_from_whole 65 (frames_of lump rest 65) has.letters,
+    ) refl
+
 whole_here : (lump : List ℕ) (n at : ℕ) → frame_check lump n at ≡ fine → is_animating (name_at lump at) ≡ true
-    → lacking_of lump (drop 2 (name_at lump at)) ≡ None
+    → HasFrames lump (drop 2 (name_at lump at))
 unfolding frame_check
-whole_here lump n at e animating = none_lacks (is_animating (name_at lump at)) n _ e animating
+whole_here lump n at e animating =
+    frames_told lump _ (none_lacks (is_animating (name_at lump at)) n _ e animating)
 
 whole_fine : (lump : List ℕ) (n at : ℕ)
-    → (is_animating (name_at lump at) ≡ true → lacking_of lump (drop 2 (name_at lump at)) ≡ None)
+    → (is_animating (name_at lump at) ≡ true → HasFrames lump (drop 2 (name_at lump at)))
     → frame_check lump n at ≡ fine
 unfolding frame_check
-whole_fine lump n at whole = lacks_none (is_animating (name_at lump at)) n _ whole
+whole_fine lump n at whole =
+    lacks_none (is_animating (name_at lump at)) n _ (λ animating. frames_fine lump _ (whole animating))
 
 -- ---- rows
 

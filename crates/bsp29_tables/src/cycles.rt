@@ -45,7 +45,7 @@ impl<'a> Model for Animations<'a> {
 }
 
 impl<'a> Animations<'a> {
-    /// The frames among the textures of a lump in which no fault was found.
+    /// The frames among the textures of a lump whose table and textures have no fault. Animations may lack frames.
     pub fn find(lump: &'a [u8]) -> Animations<'a>
         requires table { table_check lump.now ≡ fine }
         requires textures { textures_check lump.now ≡ fine }

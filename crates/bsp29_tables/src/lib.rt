@@ -8,7 +8,10 @@
 //! - planes, of 20 bytes each;
 //! - textures: their count, for each where it begins in the lump or 0xFFFFFFFF where it is missing, and the textures.
 //!   A texture is a name of 16 bytes, its width, its height, 16 bytes that aren't read, and its pixels: a picture, and
-//!   three smaller ones, each with half the sides of the one before;
+//!   three smaller ones, each with half the sides of the one before. A name ends before its first zero byte. Where it
+//!   begins with `+` the texture is a frame of an animation: the byte behind it tells the frame, a digit or a letter
+//!   from A to J, large or small, and the textures with the same bytes behind that are a group. Of the same frame of a
+//!   group the last texture counts. The digits of a group are one animation, and its letters another;
 //! - vertexes, of 12 bytes each;
 //! - visibility: bytes that aren't read;
 //! - nodes, of 24 bytes each: a plane, at 4 two children of two bytes each, at 20 a first face and a count of faces of
