@@ -24,7 +24,7 @@ use Rattle.res_table.specs.declared.answers.AcquireError.TheVariants as why
 use Rattle.res_table.specs.declared.answers.Res.{Res}
 use Rattle.res_table.specs.declared.kinds.Table.{Table}
 use Rattle.res_table.specs.declared.kinds.Table.TheVariants.{Models}
-use Rattle.console_session.specs.Commands.{acquire_named, acquired_text, answer_acquire, answer_wad, bad_name, by_resource, cleared, wad_after, wad_text, with_acquired}
+use Rattle.console_session.specs.Commands.{acquire_named, acquired_text, answer_acquire, answer_wad, bad_name, by_resource, cleared, same_names, takes_wad, wad_text, with_acquired}
 use Rattle.map_change.specs.Marks.{IsLowMark}
 use Rattle.console_session.specs.Holding.{Holds}
 use Rattle.console_session.specs.Serving.{seen, path_of, faults_in, calls_in, Does}
@@ -46,25 +46,29 @@ use Rattle.res_table.specs.Forgotten.{forgotten}
 use Rattle.res_table.proofs.Forgetting.{AreHeld-forgotten}
 use Rattle.console_session.proofs.Serving.{does_as}
 
--- the state with another memory, other tables and another current wad
-abbrev with_parts : State → Memory → Resources → Option (List ℕ) → State
-with_parts s m table wad = record s { memory = m; table = table; wad = wad }
+-- the state with another memory and other tables
+abbrev with_parts : State → Memory → Resources → State
+with_parts s m table = record s { memory = m; table = table }
 
-module _ (needed : Bool) (tells : Res → List ℕ) (wad : Result Res AcquireError → Option (List ℕ)) (name file : List ℕ) (s after : State) (m : Memory) (table : Resources) (result : Result Next Fault) (start now : Option (List ℕ)) where
+-- what a command does to the names of the current wad and of the current map
+abbrev Naming : Type 0
+Naming = Result Res AcquireError → State → State
+
+module _ (needed : Bool) (tells : Res → List ℕ) (names : Naming) (name file : List ℕ) (s after : State) (m : Memory) (table : Resources) (result : Result Next Fault) (start now : Option (List ℕ)) where
   abbrev done : Acquired → Done
   done given = record {
-    after = with_parts s given.after given.table (wad given.answer);
+    after = names given.answer (with_parts s given.after given.table);
     reply = record { text = acquired_text tells name file given.answer; load = needed; takes = needed };
     next = Goes;
   }
 
   -- what was acquired is told
-  acquired_so : (given : Acquired) (answer : Result Res AcquireError) → after ≡ with_parts s m table (wad answer) → IsAcquired given answer table m → Tells (Ok (acquired_text tells name file answer)) Goes result start now → Follows (Told (done given)) result after start now
+  acquired_so : (given : Acquired) (answer : Result Res AcquireError) → after ≡ names answer (with_parts s m table) → IsAcquired given answer table m → Tells (Ok (acquired_text tells name file answer)) Goes result start now → Follows (Told (done given)) result after start now
   acquired_so given answer moved is told =
       follows (done given) (Ok (acquired_text tells name file answer)) result after start now
-      (ap (acquired_text tells name file) is.answer, refl, moved ∙ ap (λ (n : Memory). with_parts s n table (wad answer)) is.after ∙ ap (λ (t : Resources). with_parts s given.after t (wad answer)) is.table_is ∙ ap (λ (a : Result Res AcquireError). with_parts s given.after given.table (wad a)) (sym is.answer)) told
+      (ap (acquired_text tells name file) is.answer, refl, moved ∙ ap (λ (n : Memory). names answer (with_parts s n table)) is.after ∙ ap (λ (t : Resources). names answer (with_parts s given.after t)) is.table_is ∙ ap (λ (a : Result Res AcquireError). names a (with_parts s given.after given.table)) (sym is.answer)) told
 
-  acquired_given : (given : Acquired) (answer : Result Res AcquireError) → after ≡ with_parts s m table (wad answer) → Acquires needed given answer table m → Tells (acquired_told tells name file answer) Goes result start now → Follows (Told (done given)) result after start now
+  acquired_given : (given : Acquired) (answer : Result Res AcquireError) → after ≡ names answer (with_parts s m table) → Acquires needed given answer table m → Tells (acquired_told tells name file answer) Goes result start now → Follows (Told (done given)) result after start now
   acquired_given given (Ok res) moved is told = acquired_so given (Ok res) moved is told
   acquired_given given (Err why.TableFull) moved is told = acquired_so given (Err why.TableFull) moved is told
   acquired_given given (Err why.NotFound) moved is told = acquired_so given (Err why.NotFound) moved is told
@@ -74,17 +78,17 @@ module _ (needed : Bool) (tells : Res → List ℕ) (wad : Result Res AcquireErr
   acquired_given given (Err (why.FolderFault folder)) moved is told = follows (done given) (Err (fault.Folder folder)) result after start now is told
   acquired_given given (Err why.OutOfMemory) moved is told = follows (done given) (Err fault.Memory) result after start now is told
 
-  pub acquired_follows : (given : Option Acquired) (answer : Result Res AcquireError) → after ≡ with_parts s m table (wad answer) → IfSome given (λ g. Acquires needed g answer table m) → Tells (acquired_told tells name file answer) Goes result start now
-      → Follows (with_acquired needed tells wad name file s given) result after start now
+  pub acquired_follows : (given : Option Acquired) (answer : Result Res AcquireError) → after ≡ names answer (with_parts s m table) → IfSome given (λ g. Acquires needed g answer table m) → Tells (acquired_told tells name file answer) Goes result start now
+      → Follows (with_acquired needed tells names name file s given) result after start now
   acquired_follows None answer moved is told = still_put (acquired_told tells name file answer) Goes result start now told
   acquired_follows (Some given) answer moved is told = acquired_given given answer moved is told
 
 -- a file isn't asked for where the resource is there
-unasked : (P : Type 0) (tells : Res → List ℕ) (wad : Result Res AcquireError → Option (List ℕ)) (name file : List ℕ) (s : State) (before given : Option Acquired) → IfSome before (λ _. P) → OnFalse (asks (with_acquired (is_none before) tells wad name file s given)) P
-unasked P tells wad name file s None None same = tt
-unasked P tells wad name file s None (Some given) same = tt
-unasked P tells wad name file s (Some before) None same = tt
-unasked P tells wad name file s (Some before) (Some given) same = same
+unasked : (P : Type 0) (tells : Res → List ℕ) (names : Naming) (name file : List ℕ) (s : State) (before given : Option Acquired) → IfSome before (λ _. P) → OnFalse (asks (with_acquired (is_none before) tells names name file s given)) P
+unasked P tells names name file s None None same = tt
+unasked P tells names name file s None (Some given) same = tt
+unasked P tells names name file s (Some before) None same = tt
+unasked P tells names name file s (Some before) (Some given) same = same
 
 acquire_cause : (tells : Res → List ℕ) (name file : List ℕ) (frugal : Bool) (a b : List ℕ) (s t : ℕ) (answer : Result Res AcquireError) → IfErr answer (IsAcquireFault a b) → (IsErrOf answer why.OutOfMemory → frugal ≡ false)
     → IfErr (acquired_told tells name file answer) (λ e. CauseOf frugal a b s t e)
@@ -103,18 +107,18 @@ module _ {M F O : Type 0} (store : StoreGhosts M) (folder : FolderGhosts F) (sin
     abbrev ready : State
     ready = record (seen store folder old) { memory = start; table = tables }
 
-    pub does_from : (tells : Res → List ℕ) (wad : Result Res AcquireError → Option (List ℕ))
-        → command (seen store folder old) ≡ by_resource tells wad table name ready
+    pub does_from : (tells : Res → List ℕ) (names : Naming)
+        → command (seen store folder old) ≡ by_resource tells names table name ready
         → IfSome (acquire tables start table name (load_temp ready.path.mounts start (file_of table name))) (λ given. Acquires (is_none (answered_before tables start table name)) given answer new.table (store.state new.store))
         → IfSome (answered_before tables start table name) (λ _. new.paths ≡ old.paths)
-        → seen store folder new ≡ record ready { memory = store.state new.store; path = path_of folder new.paths; table = new.table; wad = wad answer }
-        → Holds ready → Laid (store.state new.store) → AreHeld (told_mounts folder.files new.paths) new.table (store.state new.store) → GrowsLow start (store.state new.store) → (store.state new.store).zone ≡ start.zone
+        → seen store folder new ≡ names answer (record ready { memory = store.state new.store; path = path_of folder new.paths; table = new.table })
+        → ((t : State) → Holds t → Holds (names answer t)) → Holds ready → Laid (store.state new.store) → AreHeld (told_mounts folder.files new.paths) new.table (store.state new.store) → GrowsLow start (store.state new.store) → (store.state new.store).zone ≡ start.zone
         → SamePath folder.files old.paths new.paths → NoneFalls (faults_in folder old) (faults_in folder new) → IfErr answer (IsAcquireFault (faults_in folder old) (faults_in folder new)) → (IsErrOf answer why.OutOfMemory → store.frugal ≡ false)
         → Puts sink (acquired_told tells name (file_of table name) answer) Goes before now result → Does store folder sink command old new before now result
-    does_from tells wad is told same others h laid held low zone path faults cause memory puts = record {
-      told = subst (λ (did : Did). Follows did result (seen store folder new) (sink.got before) (sink.got now)) (sym is) (acquired_follows needed tells wad name file ready (seen store folder new) m new.table result (sink.got before) (sink.got now) given answer moved told puts.told);
+    does_from tells names is told same others named h laid held low zone path faults cause memory puts = record {
+      told = subst (λ (did : Did). Follows did result (seen store folder new) (sink.got before) (sink.got now)) (sym is) (acquired_follows needed tells names name file ready (seen store folder new) m new.table result (sink.got before) (sink.got now) given answer moved told puts.told);
       path = stands;
-      holds = subst (λ (t : State). Holds t) (sym moved) (holds_parts ready m new.table (wad answer) h laid held_here (subst (λ l. IsLowMark l ready.level) (sym low.1) (mark_below start.low low.0 ready.level h.level)) zone);
+      holds = subst (λ (t : State). Holds t) (sym moved) (named _ (holds_parts ready m new.table h laid held_here (subst (λ l. IsLowMark l ready.level) (sym low.1) (mark_below start.low low.0 ready.level h.level)) zone));
       causes = record {
         none_falls = faults;
         folders = same_folders folder old.paths new.paths path;
@@ -122,7 +126,7 @@ module _ {M F O : Type 0} (store : StoreGhosts M) (folder : FolderGhosts F) (sin
         cause = cause_told Goes store.frugal (faults_in folder old) (faults_in folder new) (sink.sink_faults before) (sink.sink_faults now) (acquired_told tells name file answer) result (sink.got before) (sink.got now) puts.told puts.cause
             (acquire_cause tells name file store.frugal (faults_in folder old) (faults_in folder new) (sink.sink_faults before) (sink.sink_faults now) answer cause memory);
       };
-      calls = subst (λ (did : Did). OnFalse (asks did) (calls_in folder new ≡ calls_in folder old)) (sym is) (unasked (calls_in folder new ≡ calls_in folder old) tells wad name file ready (answered_before tables start table name) given (no_calls (answered_before tables start table name) same));
+      calls = subst (λ (did : Did). OnFalse (asks did) (calls_in folder new ≡ calls_in folder old)) (sym is) (unasked (calls_in folder new ≡ calls_in folder old) tells names name file ready (answered_before tables start table name) given (no_calls (answered_before tables start table name) same));
     }
       where
         file : List ℕ
@@ -140,8 +144,8 @@ module _ {M F O : Type 0} (store : StoreGhosts M) (folder : FolderGhosts F) (sin
         stands : path_of folder new.paths ≡ path_of folder old.paths
         stands = same_path folder old.paths new.paths path
 
-        moved : seen store folder new ≡ with_parts ready m new.table (wad answer)
-        moved = others ∙ ap (λ (p : PathSeen). record ready { memory = m; path = p; table = new.table; wad = wad answer }) stands
+        moved : seen store folder new ≡ names answer (with_parts ready m new.table)
+        moved = others ∙ ap (λ (p : PathSeen). names answer (record ready { memory = m; path = p; table = new.table })) stands
 
         held_here : AreHeld ready.path.mounts new.table m
         held_here = subst (λ (ms : List (Option Mount)). AreHeld ms new.table m) (ap (λ (p : PathSeen). p.mounts) stands) held
@@ -154,28 +158,28 @@ module _ {M F O : Type 0} (store : StoreGhosts M) (folder : FolderGhosts F) (sin
   s = seen store folder old
 
   -- What a command does that acquires in the memory and with the tables that there are.
-  pub does_resource : (tells : Res → List ℕ) (wad : Result Res AcquireError → Option (List ℕ))
+  pub does_resource : (tells : Res → List ℕ) (names : Naming)
       → IfSome (acquire s.table s.memory table name (load_temp s.path.mounts s.memory (file_of table name))) (λ given. Acquires (is_none (answered_before s.table s.memory table name)) given answer new.table (store.state new.store))
       → IfSome (answered_before s.table s.memory table name) (λ _. new.paths ≡ old.paths)
-      → seen store folder new ≡ record s { memory = store.state new.store; path = path_of folder new.paths; table = new.table; wad = wad answer }
-      → Holds s → Laid (store.state new.store) → AreHeld (told_mounts folder.files new.paths) new.table (store.state new.store) → GrowsLow s.memory (store.state new.store) → (store.state new.store).zone ≡ s.memory.zone
+      → seen store folder new ≡ names answer (record s { memory = store.state new.store; path = path_of folder new.paths; table = new.table })
+      → ((t : State) → Holds t → Holds (names answer t)) → Holds s → Laid (store.state new.store) → AreHeld (told_mounts folder.files new.paths) new.table (store.state new.store) → GrowsLow s.memory (store.state new.store) → (store.state new.store).zone ≡ s.memory.zone
       → SamePath folder.files old.paths new.paths → NoneFalls (faults_in folder old) (faults_in folder new) → IfErr answer (IsAcquireFault (faults_in folder old) (faults_in folder new)) → (IsErrOf answer why.OutOfMemory → store.frugal ≡ false)
-      → Puts sink (acquired_told tells name (file_of table name) answer) Goes before now result → Does store folder sink (by_resource tells wad table name) old new before now result
-  does_resource tells wad told same others h laid held low zone path faults cause memory puts =
-      does_from s.memory s.table (by_resource tells wad table name) tells wad refl told same others h laid held low zone path faults cause memory puts
+      → Puts sink (acquired_told tells name (file_of table name) answer) Goes before now result → Does store folder sink (by_resource tells names table name) old new before now result
+  does_resource tells names told same others named h laid held low zone path faults cause memory puts =
+      does_from s.memory s.table (by_resource tells names table name) tells names refl told same others named h laid held low zone path faults cause memory puts
 
   -- the model of a name is to be the current wad
-  pub does_wad : Does store folder sink (by_resource (wad_text name) (wad_after s.wad name) Models name) old new before now result → Does store folder sink (answer_wad (Some name)) old new before now result
+  pub does_wad : Does store folder sink (by_resource (wad_text name) (takes_wad name) Models name) old new before now result → Does store folder sink (answer_wad (Some name)) old new before now result
   does_wad does =
-      does_as store folder sink old new before now result (answer_wad (Some name)) (by_resource (wad_text name) (wad_after s.wad name) Models name) refl does
+      does_as store folder sink old new before now result (answer_wad (Some name)) (by_resource (wad_text name) (takes_wad name) Models name) refl does
 
   -- the same where a name without a lawful file is refused
-  pub does_acquired : IsTrue (is_game_name (file_of table name)) → Does store folder sink (by_resource (resource_text name) (λ answer. s.wad) table name) old new before now result → Does store folder sink (answer_acquire table (Some name)) old new before now result
+  pub does_acquired : IsTrue (is_game_name (file_of table name)) → Does store folder sink (by_resource (resource_text name) same_names table name) old new before now result → Does store folder sink (answer_acquire table (Some name)) old new before now result
   does_acquired lawful does =
-      does_as store folder sink old new before now result (answer_acquire table (Some name)) (by_resource (resource_text name) (λ answer. s.wad) table name) (ap (λ (b : Bool). if b then acquire_named table name s else bad_name s) lawful) does
+      does_as store folder sink old new before now result (answer_acquire table (Some name)) (by_resource (resource_text name) same_names table name) (ap (λ (b : Bool). if b then acquire_named table name s else bad_name s) lawful) does
 
 -- What lies behind the host level goes, and a console holds what it held.
 pub cleared_holds : (s : State) → Holds s → Holds (cleared s)
 cleared_holds s h =
-    holds_parts s (freed_to s.level s.memory) (forgotten s.level s.table) s.wad h (Laid-low_free s.memory s.level h.laid) (AreHeld-forgotten _ _ _ s.level h.resources h.laid)
+    holds_parts s (freed_to s.level s.memory) (forgotten s.level s.table) h (Laid-low_free s.memory s.level h.laid) (AreHeld-forgotten _ _ _ s.level h.resources h.laid)
     (mark_freed s.memory s.level s.level h.laid.low h.level (omega arith)) (zone-low_free s.memory s.level)

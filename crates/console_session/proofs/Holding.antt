@@ -47,8 +47,8 @@ same_bytes m n [] same = tt
 same_bytes m n (place ∷ places) same = (λ bytes there. zone_bytes-same n m place same ∙ there, same_bytes m n places same)
 
 -- a step that leaves the zone
-pub holds_parts : (s : State) (m : Memory) (table : Resources) (wad : Option (List ℕ)) → Holds s → Laid m → AreHeld s.path.mounts table m → IsLowMark m.low s.level → m.zone ≡ s.memory.zone → Holds (record s { memory = m; table = table; wad = wad })
-holds_parts s m table wad h laid resources level same =
+pub holds_parts : (s : State) (m : Memory) (table : Resources) → Holds s → Laid m → AreHeld s.path.mounts table m → IsLowMark m.low s.level → m.zone ≡ s.memory.zone → Holds (record s { memory = m; table = table })
+holds_parts s m table h laid resources level same =
     let still = aliases_still s.memory m s.newest (same_bytes s.memory m (alias_places (aliases_of s.memory s.newest)) same) h.aliases in
     record {
       laid = laid;
@@ -63,10 +63,14 @@ holds_parts s m table wad h laid resources level same =
 -- the same where the tables stay, and the blocks that they name
 pub holds_memory : (s : State) (m : Memory) → Holds s → Laid m → IsLowMark m.low s.level → m.zone ≡ s.memory.zone → Keeps (lows_of s.table) [] s.memory m → Holds (record s { memory = m })
 holds_memory s m h laid level same keeps =
-    holds_parts s m s.table s.wad h laid (AreHeld-Keeps s.path.mounts s.table s.memory m h.resources keeps) level same
+    holds_parts s m s.table h laid (AreHeld-Keeps s.path.mounts s.table s.memory m h.resources keeps) level same
 
 pub holds_buffer : (s : State) (buffer : List ℕ) → Holds s → IsText buffer → Holds (record s { buffer = buffer })
 holds_buffer s buffer h text = record { laid = h.laid; resources = h.resources; level = h.level; text = text; cvars = h.cvars; aliases = h.aliases; apart = h.apart }
+
+-- the names of the current wad and of the current map
+pub holds_names : (s : State) (wad map : Option (List ℕ)) → Holds s → Holds (record s { wad = wad; map = map })
+holds_names s wad map h = record { laid = h.laid; resources = h.resources; level = h.level; text = h.text; cvars = h.cvars; aliases = h.aliases; apart = h.apart }
 
 pub holds_level : (s : State) (level : ℕ) → Holds s → IsLowMark s.memory.low level → Holds (record s { level = level })
 holds_level s level h is = record { laid = h.laid; resources = h.resources; level = is; text = h.text; cvars = h.cvars; aliases = h.aliases; apart = h.apart }
@@ -116,7 +120,7 @@ zone_after_low m n size name frugal None given = ap (λ (x : Memory). x.zone) gi
 zone_after_low m n size name frugal (Some reply) given = ap (λ (x : Memory). x.zone) given.after ∙ zone-low_alloc m size name
 
 -- at the start
-pub holds_first : (m : Memory) (path : PathSeen) (table : Resources) (level : ℕ) (cvars : List Cvar) → Laid m → AreHeld path.mounts table m → IsLowMark m.low level → HoldsCvars m cvars → Holds (record { memory = m; path = path; table = table; buffer = []; level = level; cvars = cvars; newest = None; wad = None })
+pub holds_first : (m : Memory) (path : PathSeen) (table : Resources) (level : ℕ) (cvars : List Cvar) → Laid m → AreHeld path.mounts table m → IsLowMark m.low level → HoldsCvars m cvars → Holds (record { memory = m; path = path; table = table; buffer = []; level = level; cvars = cvars; newest = None; wad = None; map = None })
 holds_first m path table level cvars laid resources mark holds = record {
   laid = laid;
   resources = resources;

@@ -23,7 +23,7 @@ use Rattle.res_table.specs.declared.kinds.Kind.{Kind}
 use Rattle.res_table.specs.declared.kinds.Table.{Table}
 use Rattle.res_table.specs.declared.kinds.Table.TheVariants.{Models, Sounds}
 use Rattle.console_session.specs.States.{State, Done, Did, Told, Untold, says}
-use Rattle.console_session.specs.Commands.{acquire_named, answer_acquire, answer_map, answer_wad, cleared, map_in, map_text, wad_text, wad_after, bad_name, by_image, by_resource, table_in, with_acquired, word_at, with_load, with_told, by_load, shown_file, inserted_file, of_number_and_name, reserve_block, video_block, list_aliases, make_alias, make_cvar, cvar_text, by_cvar, by_alias, by_verb, by_words, by_text, command, name_in, number_in}
+use Rattle.console_session.specs.Commands.{acquire_named, answer_acquire, answer_map, answer_wad, cleared, map_in, map_text, wad_text, of_map_and_leaf, map_image, same_names, takes_map, takes_wad, bad_name, by_image, by_resource, table_in, with_acquired, word_at, with_load, with_told, by_load, shown_file, inserted_file, of_number_and_name, reserve_block, video_block, list_aliases, make_alias, make_cvar, cvar_text, by_cvar, by_alias, by_verb, by_words, by_text, command, name_in, number_in}
 use Rattle.console_session.specs.Verbs.{verb_of}
 use Rattle.console_session.specs.Frames.{Ended, Ran, ending, gone_on, continued, frame, overflowed, line, IsRun, IsCutShort, GoesAs, Runs}
 use Rattle.console_session.specs.declared.ends.Fault.{Fault}
@@ -44,6 +44,10 @@ AllTold s mounts = s.path.mounts ≡ map Some mounts
 by_test : (s : State) (b : Bool) (one other : Did) → Knows s one → Knows s other → Knows s (if b then one else other)
 by_test s true one other first second = first
 by_test s false one other first second = second
+
+-- the names of the current wad and of the current map leave the path
+abbrev KeepsPath : (Result Res AcquireError → State → State) → Type 0
+KeepsPath names = (answer : Result Res AcquireError) (s : State) → (names answer s).path ≡ s.path
 
 module _ (s : State) (mounts : List Mount) (told : AllTold s mounts) where
   knows_loading : (missing name : List ℕ) (did : State → Memory → ℕ → List ℕ → Did) → ((m : Memory) (place : ℕ) (bytes : List ℕ) → Knows s (did s m place bytes)) → (m : Memory) (given : Load) → Knows s (with_load missing name did s m given)
@@ -68,38 +72,43 @@ module _ (s : State) (mounts : List Mount) (told : AllTold s mounts) where
   knows_block did each (Some size) None = refl
   knows_block did each (Some size) (Some name) = each size name
 
-  knows_given : (needed : Bool) (tells : Res → List ℕ) (wad : Result Res AcquireError → Option (List ℕ)) (name file : List ℕ) (before : Option Acquired) (after : Acquired) → Knows s (with_acquired needed tells wad name file s (option_or before (Some after)))
-  knows_given needed tells wad name file None after = refl
-  knows_given needed tells wad name file (Some given) after = refl
+  knows_given : (needed : Bool) (tells : Res → List ℕ) (names : Result Res AcquireError → State → State) → KeepsPath names → (name file : List ℕ) (before : Option Acquired) (after : Acquired) → Knows s (with_acquired needed tells names name file s (option_or before (Some after)))
+  knows_given needed tells names keeps name file None after = keeps after.answer _
+  knows_given needed tells names keeps name file (Some given) after = keeps given.answer _
 
   -- a resource that is acquired over such mounts is told
-  knows_resource : (tells : Res → List ℕ) (wad : Result Res AcquireError → Option (List ℕ)) (table : Table) (name : List ℕ) → Knows s (by_resource tells wad table name s)
-  knows_resource tells wad table name =
+  knows_resource : (tells : Res → List ℕ) (names : Result Res AcquireError → State → State) → KeepsPath names → (table : Table) (name : List ℕ) → Knows s (by_resource tells names table name s)
+  knows_resource tells names keeps table name =
       let file = file_of table name in
       let before = answered_before s.table s.memory table name in
       let given : Loading = temp_load s.memory file (find_in file mounts) in
       let known : load_temp s.path.mounts s.memory file ≡ Some given = ap (λ (ms : List (Option Mount)). load_temp ms s.memory file) told ∙ ap (option_map (temp_load s.memory file)) (find_told-all file mounts) in
-      subst (λ (loading : Option Loading). Knows s (with_acquired (is_none before) tells wad name file s (acquire s.table s.memory table name loading))) (sym known)
-      (knows_given (is_none before) tells wad name file before (answered_after s.table s.memory table name given))
+      subst (λ (loading : Option Loading). Knows s (with_acquired (is_none before) tells names name file s (acquire s.table s.memory table name loading))) (sym known)
+      (knows_given (is_none before) tells names keeps name file before (answered_after s.table s.memory table name given))
 
   knows_acquire : (table : Table) (name : Option (List ℕ)) → Knows s (answer_acquire table name s)
   knows_acquire table None = refl
   knows_acquire table (Some name) =
-      by_test s (is_game_name (file_of table name)) (acquire_named table name s) (bad_name s) (knows_resource (resource_text name) (λ answer. s.wad) table name) refl
+      by_test s (is_game_name (file_of table name)) (acquire_named table name s) (bad_name s) (knows_resource (resource_text name) same_names (λ answer t. refl) table name) refl
 
   knows_wad : (name : Option (List ℕ)) → Knows s (answer_wad name s)
   knows_wad None = refl
-  knows_wad (Some name) = knows_resource (wad_text name) (wad_after s.wad name) Models name
+  knows_wad (Some name) = knows_resource (wad_text name) (takes_wad name) (λ answer t. refl) Models name
 
 module _ (s : State) (mounts : List Mount) (told : AllTold s mounts) where
   knows_map : (file : Option (List ℕ)) → Knows s (answer_map file s)
   knows_map None = refl
-  knows_map (Some file) = knows_resource (cleared s) mounts told (map_text file) (λ answer. s.wad) Models file
+  knows_map (Some file) = knows_resource (cleared s) mounts told (map_text file) (takes_map file) (λ answer t. refl) Models file
 
   knows_image : (tells : Kind → (name image : List ℕ) → List ℕ) (table : Option Table) (name : Option (List ℕ)) → Knows s (by_image tells table name s)
   knows_image tells None name = refl
   knows_image tells (Some table) None = refl
   knows_image tells (Some table) (Some name) = refl
+
+  knows_leaf : (image : Option (List ℕ)) (leaf : Option ℕ) → Knows s (of_map_and_leaf image leaf s)
+  knows_leaf None leaf = refl
+  knows_leaf (Some image) None = refl
+  knows_leaf (Some image) (Some leaf) = refl
 
   module _ (words : List (List ℕ)) where
     knows_cvar : (value : Option (List ℕ)) → Knows s (by_cvar words value s)
@@ -131,6 +140,7 @@ module _ (s : State) (mounts : List Mount) (told : AllTold s mounts) where
     knows_verb (Some verb.Wad) = knows_wad s mounts told (name_in 1 words)
     knows_verb (Some verb.Map) = knows_map (map_in 1 words)
     knows_verb (Some verb.Pic) = refl
+    knows_verb (Some verb.Vis) = knows_leaf (map_image s) (number_in 1 words)
 
     knows_words : Knows s (by_words words s)
     knows_words = by_test s (eqb (length words) 0) (says s Goes []) (by_verb (verb_of (word_at 0 words)) words s) refl (knows_verb (verb_of (word_at 0 words)))

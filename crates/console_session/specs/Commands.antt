@@ -19,6 +19,7 @@ use Rattle.cmd_buffer.specs.Aliases.{alias_texts, alias_value, set_alias}
 use Rattle.cvar_table.specs.Cvars.{CvarSet, cvar_value, set_cvar}
 use Rattle.info_text.specs.Dumps.{dump_text}
 use Rattle.info_text.specs.Infos.{info_text}
+use Rattle.info_text.specs.LeafRows.{leaf_text}
 use Rattle.info_text.specs.Lines.{bad_text, resource_text}
 use Rattle.map_change.specs.Changes.{freed_to}
 use Rattle.reply_pieces.specs.Pieces.{joined}
@@ -192,26 +193,30 @@ abbrev pub acquired_text : (tells : Res → List ℕ) → (name file : List ℕ)
 acquired_text tells name file (Ok res) = tells res
 acquired_text tells name file (Err error) = refused_text name file error
 
--- A resource was acquired; where its file was needed, it was asked for, and so was memory. `wad` says which wad is the current
--- one after an answer.
-abbrev pub with_acquired : (needed : Bool) → (tells : Res → List ℕ) → (wad : Result Res AcquireError → Option (List ℕ))
+-- A resource was acquired; where its file was needed, it was asked for, and so was memory. `names` says what is the current wad
+-- and the current map after an answer.
+abbrev pub with_acquired : (needed : Bool) → (tells : Res → List ℕ) → (names : Result Res AcquireError → State → State)
     → (name file : List ℕ) → State → Option Acquired → Did
-with_acquired needed tells wad name file s None = Untold
-with_acquired needed tells wad name file s (Some given) = Told (record {
-  after = record s { memory = given.after; table = given.table; wad = wad given.answer };
+with_acquired needed tells names name file s None = Untold
+with_acquired needed tells names name file s (Some given) = Told (record {
+  after = names given.answer (record s { memory = given.after; table = given.table });
   reply = record { text = acquired_text tells name file given.answer; load = needed; takes = needed };
   next = Goes;
 })
 
 -- a command that acquires the resource of a name
-abbrev pub by_resource : (tells : Res → List ℕ) → (wad : Result Res AcquireError → Option (List ℕ))
+abbrev pub by_resource : (tells : Res → List ℕ) → (names : Result Res AcquireError → State → State)
     → Table → (name : List ℕ) → State → Did
-by_resource tells wad table name s =
-    with_acquired (is_none (answered_before s.table s.memory table name)) tells wad name (file_of table name) s
+by_resource tells names table name s =
+    with_acquired (is_none (answered_before s.table s.memory table name)) tells names name (file_of table name) s
     (acquire s.table s.memory table name (load_temp s.path.mounts s.memory (file_of table name)))
 
+-- the current wad and the current map stay
+abbrev pub same_names : Result Res AcquireError → State → State
+same_names answer s = s
+
 abbrev pub acquire_named : Table → List ℕ → State → Did
-acquire_named table name s = by_resource (resource_text name) (λ answer. s.wad) table name s
+acquire_named table name s = by_resource (resource_text name) same_names table name s
 
 -- the resource of a name is acquired, where the name and that of its file are lawful
 abbrev pub answer_acquire : Table → Option (List ℕ) → State → Did
@@ -235,10 +240,13 @@ abbrev pub wad_after : (old : Option (List ℕ)) → (name : List ℕ) → Resul
 wad_after old name (Ok res) = if is_wad res.kind then Some name else old
 wad_after old name (Err error) = old
 
+abbrev pub takes_wad : (name : List ℕ) → Result Res AcquireError → State → State
+takes_wad name answer s = record s { wad = wad_after s.wad name answer }
+
 -- the model of a name is acquired, to be the current wad
 abbrev pub answer_wad : Option (List ℕ) → State → Did
 answer_wad None s = bad_name s
-answer_wad (Some name) s = by_resource (wad_text name) (wad_after s.wad name) Models name s
+answer_wad (Some name) s = by_resource (wad_text name) (takes_wad name) Models name s
 
 -- What lies behind the host level is freed, and forgotten.
 abbrev pub cleared : State → State
@@ -255,10 +263,18 @@ not_map_text file = joined (file ∷ codes " is no map\n" ∷ [])
 abbrev pub map_text : (file : List ℕ) → Res → List ℕ
 map_text file res = if is_brush res.kind then resource_text file res else not_map_text file
 
+-- the current map after that: the model, where it was acquired and is a brush model, and else none
+abbrev pub map_after : (file : List ℕ) → Result Res AcquireError → Option (List ℕ)
+map_after file (Ok res) = if is_brush res.kind then Some file else None
+map_after file (Err error) = None
+
+abbrev pub takes_map : (file : List ℕ) → Result Res AcquireError → State → State
+takes_map file answer s = record s { map = map_after file answer }
+
 -- The map is changed: what belonged to the last one goes, and the model of this file is acquired.
 abbrev pub answer_map : (file : Option (List ℕ)) → State → Did
 answer_map None s = bad_name s
-answer_map (Some file) s = by_resource (map_text file) (λ answer. s.wad) Models file (cleared s)
+answer_map (Some file) s = by_resource (map_text file) (takes_map file) Models file (cleared s)
 
 abbrev pub bad_kind : State → Did
 bad_kind s = says s Goes (joined (codes "bad kind\n" ∷ []))
@@ -300,6 +316,25 @@ pic_text name (Some image) = lump_text name image
 
 abbrev pub answer_pic : (word : List ℕ) → State → Did
 answer_pic word s = says s Goes (pic_text (cleaned word) (wad_image s))
+
+-- the image of the current map, where it is there and is a brush model
+abbrev pub map_only : Kind × List ℕ → Option (List ℕ)
+map_only shown = if is_brush shown.0 then Some shown.1 else None
+
+abbrev pub map_image : State → Option (List ℕ)
+map_image s = option_and_then map_only (option_and_then (seen s.table s.memory Models) s.map)
+
+abbrev pub no_map_text : List ℕ
+no_map_text = joined (codes "no map\n" ∷ [])
+
+-- a command on a leaf of the current map; the map and the number are refused in this order
+abbrev pub of_map_and_leaf : Option (List ℕ) → Option ℕ → State → Did
+of_map_and_leaf None leaf s = says s Goes no_map_text
+of_map_and_leaf (Some image) None s = bad_number s
+of_map_and_leaf (Some image) (Some leaf) s = says s Goes (leaf_text leaf image)
+
+abbrev pub answer_vis : (leaf : Option ℕ) → State → Did
+answer_vis leaf s = of_map_and_leaf (map_image s) leaf s
 
 -- a block of the zone of this size was refused
 abbrev pub full_text : ℕ → List ℕ
@@ -428,6 +463,7 @@ by_verb (Some verb.Dump) words s = answer_dump (table_in 1 words) (name_in 2 wor
 by_verb (Some verb.Wad) words s = answer_wad (name_in 1 words) s
 by_verb (Some verb.Map) words s = answer_map (map_in 1 words) s
 by_verb (Some verb.Pic) words s = answer_pic (word_at 1 words) s
+by_verb (Some verb.Vis) words s = answer_vis (number_in 1 words) s
 
 -- a text without words does nothing
 abbrev pub by_words : List (List ℕ) → State → Did

@@ -30,6 +30,7 @@ seen store folder console = record {
   cvars = console.cvars;
   newest = console.aliases;
   wad = console.wad;
+  map = console.map;
 }
 
 -- each folder's count of faults, and of calls

@@ -23,8 +23,8 @@ pub record PathSeen : Type 0 where
   pub told : List (Option (List File))
 
 -- The memory; the path; the resources; the bytes of the command buffer; the host level, a mark of the low hunk; the cvars; the
--- record of the newest alias; and the name of the current wad, which is one of the models. The values of the cvars, the
--- aliases and the images of resources are read from the memory.
+-- record of the newest alias; and the names of the current wad and of the current map, which are models. The values of the
+-- cvars, the aliases and the images of resources are read from the memory.
 pub record State : Type 0 where
   pub memory : Memory
   pub path : PathSeen
@@ -34,6 +34,7 @@ pub record State : Type 0 where
   pub cvars : List Cvar
   pub newest : Option ℕ
   pub wad : Option (List ℕ)
+  pub map : Option (List ℕ)
 
 -- a memory that was just created, with a zone of at least 4096 bytes and as many users of the cache as a session has
 pub record IsNew (m : Memory) : Type 0 where
@@ -47,8 +48,8 @@ abbrev pub cvars_in : Result (List Cvar) ℕ → List Cvar
 cvars_in (Ok cvars) = cvars
 cvars_in (Err asked) = []
 
--- At the start the cvars have their defaults, there is no alias, no resource and no current wad, the buffer is empty, and the
--- host level is where the low hunk ends. Sounds are made for `speed` samples a second.
+-- At the start the cvars have their defaults, there is no alias, no resource, no current wad and no current map, the buffer is
+-- empty, and the host level is where the low hunk ends. Sounds are made for `speed` samples a second.
 abbrev pub started : Memory → PathSeen → (speed : ℕ) → State
 started m path speed = record {
   memory = (created m defaults).after;
@@ -59,6 +60,7 @@ started m path speed = record {
   cvars = cvars_in (created m defaults).answer;
   newest = None;
   wad = None;
+  map = None;
 }
 
 -- what a command prints, whether it asked for a file, and whether it asked for memory

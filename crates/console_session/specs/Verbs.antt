@@ -33,6 +33,7 @@ verbs =
     named (codes "wad") verb.Wad ∷
     named (codes "pic") verb.Pic ∷
     named (codes "map") verb.Map ∷
+    named (codes "vis") verb.Vis ∷
     []
 
 -- the first of these that a word names, in any case

@@ -33,6 +33,8 @@ pub struct Console<M: Store, F: Folder> {
     aliases: Aliases,
     // The name of the current wad.
     wad: Option<GameName>,
+    // The name of the file of the current map.
+    map: Option<GameName>,
     // Whether the run has ended.
     pub ended: bool,
 }
@@ -61,6 +63,7 @@ impl<M: Store, F: Folder> Console<M, F> {
                 cvars,
                 aliases: Aliases::create(),
                 wad: None,
+                map: None,
                 ended: false,
             }),
             Err(ZoneError::Full { .. }) => unreachable!(),

@@ -6,13 +6,14 @@ ghost use Rattle.cmd_buffer.specs.Aliases.{HoldsAliases, alias_texts};
 ghost use Rattle.block_report.specs.Reports.{report_text};
 ghost use Rattle.info_text.specs.Dumps.{dump_text};
 ghost use Rattle.info_text.specs.Infos.{info_text};
+ghost use Rattle.info_text.specs.LeafRows.{leaf_text};
 ghost use Rattle.info_text.specs.Lines.{bad_text, resource_text};
 ghost use Rattle.res_table.specs.Images.{HasFileName, IsImage, file_of};
 ghost use Rattle.wad2_lumps.specs.Pictures.{pixels_end};
 ghost use Rattle.console_session.specs.Pictures.{picture_told};
 ghost use Rattle.console_session.specs.Telling.{Puts, acquired_told, refused_told, load_told, block_told, cvar_told, alias_told};
 ghost use Rattle.console_session.specs.Commands.{missing_text, beyond_text, short_text, full_text, long_name_text};
-ghost use Rattle.console_session.specs.Commands.{absent_text, block_text, map_text, not_map_text, not_wad_text, no_wad_text, spaced};
+ghost use Rattle.console_session.specs.Commands.{absent_text, block_text, map_text, not_map_text, not_wad_text, no_map_text, no_wad_text, spaced};
 ghost use Rattle.console_session.specs.Commands.{exec_text, file_text, cvar_text, expansion_text, unknown_text};
 ghost use Rattle.console_session.specs.Commands.{alias_line, alias_lines, alias_list, mount_line, mount_lines};
 
@@ -21,7 +22,9 @@ use base_fields::GameName;
 use block_report::report;
 use cmd_buffer::{AliasError, Aliases, Words};
 use file_load::LoadError;
-use info_text::{LumpError, dump, info, put_bad, put_lump_error, put_picture, put_resource};
+use info_text::{
+    LumpError, dump, info, put_bad, put_leaf_row, put_lump_error, put_picture, put_resource,
+};
 use mem_model::{Place, RoomError, Store, ZoneError};
 use outside_io::{Folder, Sink, SinkFailed};
 use reply_pieces::{Piece, put_all};
@@ -412,6 +415,24 @@ pub fn put_pic<O: Sink>(
         Err(error) => put_lump_error(name, error, out),
     };
     match put {
+        Ok(()) => Ok(Next::Goes),
+        Err(_) => Err(Fault::Write),
+    }
+}
+
+// Says that there is no current map.
+pub fn put_no_map<O: Sink>(out: &mut O) -> Result<Next, Fault>
+    ensures { Puts O.Sink (Ok (no_map_text)) Next.Goes out.old out.new result }
+{
+    reply(out, &[Piece::Text(b"no map\n")])
+}
+
+// Tells which leafs are seen from a leaf of a map.
+pub fn put_leaf<O: Sink>(out: &mut O, image: &[u8], leaf: u32) -> Result<Next, Fault>
+    requires { IsImage Kind.Brush image.now }
+    ensures { Puts O.Sink (Ok (leaf_text leaf image.now)) Next.Goes out.old out.new result }
+{
+    match put_leaf_row(image, leaf, out) {
         Ok(()) => Ok(Next::Goes),
         Err(_) => Err(Fault::Write),
     }

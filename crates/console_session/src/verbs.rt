@@ -25,10 +25,11 @@ pub enum Verb {
     Wad,
     Pic,
     Map,
+    Vis,
 }
 
 // Each command with its name.
-static VERBS: [(&[u8], Verb); 19] = [
+static VERBS: [(&[u8], Verb); 20] = [
     (b"file", Verb::File),
     (b"echo", Verb::Echo),
     (b"exec", Verb::Exec),
@@ -48,6 +49,7 @@ static VERBS: [(&[u8], Verb); 19] = [
     (b"wad", Verb::Wad),
     (b"pic", Verb::Pic),
     (b"map", Verb::Map),
+    (b"vis", Verb::Vis),
 ];
 
 // Whether the two are the same but for the case of their letters.

@@ -1,6 +1,7 @@
 pub mod Dumps
 pub mod Faults
 pub mod Infos
+pub mod LeafRows
 pub mod Lines
 pub mod LumpErrors
 pub mod LumpNames

@@ -1,19 +1,14 @@
 // A picture of a wad, row by row.
 ghost use Rattle.std.specs.Prelude.{◌≡◌, ◌≤◌, length};
-ghost use Rattle.hex.specs.Hex.{encode_lower};
 ghost use Rattle.reply_pieces.specs.Pieces.{PutsText};
 ghost use Rattle.wad2_lumps.specs.Pictures.{pixels_end};
-ghost use Rattle.info_text.specs.Dumps.{hex_line};
 ghost use Rattle.info_text.specs.Pictures.{picture_text, rows_text, title};
 
-use crate::digits::fill_digits;
+use crate::digits::put_hex_line;
 use crate::lump_names::shown;
 use outside_io::{Sink, SinkFailed};
 use reply_pieces::{Piece, put_all};
 use wad2_lumps::{LumpName, Picture};
-
-// How many bytes of a row have their digits in one put.
-const PIECE: usize = 32;
 
 fn put_title<O: Sink>(name: &LumpName, picture: &Picture, out: &mut O) -> Result<(), SinkFailed>
     ensures { PutsText O.Sink (title name.now picture.now) out.old out.new result }
@@ -33,27 +28,6 @@ fn put_title<O: Sink>(name: &LumpName, picture: &Picture, out: &mut O) -> Result
     )
 }
 
-// Puts the digits of a piece in one put.
-fn put_piece<O: Sink>(bytes: &[u8], out: &mut O) -> Result<(), SinkFailed>
-    requires { length bytes.now ≤ 32 }
-    ensures { PutsText O.Sink (encode_lower bytes.now) out.old out.new result }
-{
-    let mut room = [0; 2 * PIECE];
-    let digits = &mut room[..2 * bytes.len()];
-    fill_digits(digits, bytes);
-    out.put(digits)
-}
-
-// A row may have 4096 pixels, and no memory is taken for its digits, so they are put in pieces.
-fn put_row<O: Sink>(row: &[u8], out: &mut O) -> Result<(), SinkFailed>
-    ensures { PutsText O.Sink (hex_line row.now) out.old out.new result }
-{
-    for bytes in row.chunks(PIECE) {
-        put_piece(bytes, out)?;
-    }
-    out.put(b"\n")
-}
-
 fn put_rows<O: Sink>(picture: &Picture, image: &[u8], out: &mut O) -> Result<(), SinkFailed>
     requires { pixels_end picture.now ≤ length image.now }
     ensures { PutsText O.Sink (rows_text picture.now image.now) out.old out.new result }
@@ -61,7 +35,7 @@ fn put_rows<O: Sink>(picture: &Picture, image: &[u8], out: &mut O) -> Result<(),
     let width = picture.width as usize;
     for row in 0..picture.height as usize {
         let from = picture.offset as usize + width * row;
-        put_row(&image[from..from + width], out)?;
+        put_hex_line(&image[from..from + width], out)?;
     }
     Ok(())
 }

@@ -53,6 +53,7 @@ impl<M: Store, F: Folder> Console<M, F> {
             Some(Verb::Wad) => self.take_wad(name_in(words, 1), out),
             Some(Verb::Pic) => self.pic(words.word(1), out),
             Some(Verb::Map) => self.change_map(map_in(words, 1), out),
+            Some(Verb::Vis) => self.vis(number_in(words, 1), out),
         }
     }
 

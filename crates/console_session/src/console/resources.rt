@@ -3,7 +3,8 @@ ghost use Rattle.std.specs.Prelude.{◌≡◌, ◌≤◌, length, IfOk, IfSome, 
 ghost use Rattle.res_table.specs.Images.{IsImage};
 ghost use Rattle.wad2_lumps.specs.Lumps.{lump_in};
 ghost use Rattle.wad2_lumps.specs.Pictures.{pixels_end};
-ghost use Rattle.console_session.specs.Commands.{answer_acquire, answer_dump, answer_info, answer_map, answer_pic, answer_wad, wad_image};
+ghost use Rattle.console_session.specs.Commands.{answer_acquire, answer_dump, answer_info, answer_map, answer_pic, answer_vis, answer_wad};
+ghost use Rattle.console_session.specs.Commands.{map_after, map_image, wad_image};
 ghost use Rattle.console_session.specs.Holding.{Holds};
 ghost use Rattle.console_session.specs.Pictures.{picture_of};
 ghost use Rattle.console_session.specs.Serving.{seen, Does};
@@ -11,15 +12,15 @@ ghost use Rattle.console_session.specs.Serving.{seen, Does};
 use crate::console::Console;
 use crate::ends::{Fault, Next};
 use crate::replies::{
-    put_absent, put_acquired, put_bad_kind, put_bad_name, put_dump, put_info, put_map, put_no_wad,
-    put_not_wad, put_pic, put_refused, put_res,
+    put_absent, put_acquired, put_bad_kind, put_bad_name, put_bad_number, put_dump, put_info,
+    put_leaf, put_map, put_no_map, put_no_wad, put_not_wad, put_pic, put_refused, put_res,
 };
 use base_fields::GameName;
 use info_text::LumpError;
 use map_change::change_map;
 use mem_model::Store;
 use outside_io::{Folder, Sink};
-use res_table::{Kind, Table};
+use res_table::{AcquireError, Kind, Res, Table};
 use wad2_lumps::{Lump, LumpName, PicFault, Picture, cleaned, lump, picture};
 
 impl<M: Store, F: Folder> Console<M, F> {
@@ -116,7 +117,8 @@ impl<M: Store, F: Folder> Console<M, F> {
         }
     }
 
-    // Frees what lies behind the host level, and acquires the map of this file.
+    // Frees what lies behind the host level, and acquires the map of this file, which is the current one then, where it is
+    // a brush model. Else there is none, since the last one may have been freed.
     pub(super) fn change_map<O: Sink>(
         &mut self,
         file: Option<GameName>,
@@ -135,6 +137,7 @@ impl<M: Store, F: Folder> Console<M, F> {
             self.level,
             &file,
         );
+        self.map = map_after(&file, answer);
         put_map(out, &file, answer)
     }
 
@@ -162,6 +165,44 @@ impl<M: Store, F: Folder> Console<M, F> {
         };
         let name = cleaned(word);
         put_pic(out, &name, image, picture_of(image, &name))
+    }
+
+    // The image of the current map, where it is there.
+    fn map_image(&self) -> Option<&[u8]>
+        requires holds { Holds (seen M.Store F.Folder self.now) }
+        ensures seen { MatchOption result (map_image (seen M.Store F.Folder self.now) ≡ None)
+            (λ image. map_image (seen M.Store F.Folder self.now) ≡ Some image.now) }
+        ensures image { IfSome result (λ image. IsImage Kind.Brush image.now) }
+    {
+        let file = self.map.as_ref()?;
+        match self.table.look(&self.store, Table::Models, file)? {
+            (Kind::Brush, image) => Some(image),
+            _ => None,
+        }
+    }
+
+    // Tells which leafs are seen from a leaf of the current map.
+    pub(super) fn vis<O: Sink>(&mut self, leaf: Option<u32>, out: &mut O) -> Result<Next, Fault>
+        requires holds { Holds (seen M.Store F.Folder self.old) }
+        ensures { Does M.Store F.Folder O.Sink (answer_vis leaf) self.old self.new out.old out.new result }
+    {
+        let Some(image) = self.map_image() else {
+            return put_no_map(out);
+        };
+        let Some(leaf) = leaf else {
+            return put_bad_number(out);
+        };
+        put_leaf(out, image, leaf)
+    }
+}
+
+// The name of a file that was to be the current map, where it is.
+fn map_after(file: &GameName, answer: Result<Res, AcquireError>) -> Option<GameName>
+    ensures { result ≡ map_after file.now answer }
+{
+    match answer {
+        Ok(res) if res.kind == Kind::Brush => Some(file.copied()),
+        _ => None,
     }
 }
 

@@ -7,7 +7,7 @@ use Rattle.reply_pieces.specs.Pieces.{PutsText}
 use Rattle.reply_pieces.proofs.Putting.{part_put, part_cut, rest_put}
 use Rattle.info_text.specs.Dumps.{hex_line}
 use Rattle.info_text.proofs.LineLaws.{empty_line, line_append}
-use Rattle.info_text.proofs.pictures.put_row.Goals as goal
+use Rattle.info_text.proofs.digits.put_hex_line.Goals as goal
 
 pub returns-in_err-put_piece : goal.returns-in_err-put_piece
 returns-in_err-put_piece g c =
@@ -15,7 +15,7 @@ returns-in_err-put_piece g c =
     let rest = chunks_rest c.next.new.self in
     let here = ap hex_line c.in-Some.ensures.steps.1.0 ∙ line_append bytes rest in
     let p = err_from_is_err_and c.from_residual.result c.from_residual.ensures.1 in
-    rw (p.1, p.2) (part_cut g.O.Sink (hex_line c.args.row.now) (encode_lower bytes) (hex_line rest)
+    rw (p.1, p.2) (part_cut g.O.Sink (hex_line c.args.line.now) (encode_lower bytes) (hex_line rest)
     c.loop-bytes.invariant.3 here c.in_err-put_piece.ensures)
 
 pub loop-bytes-preserved : goal.loop-bytes-preserved
@@ -26,7 +26,7 @@ loop-bytes-preserved g c =
       search rules,
       tt,
       c.in-Some.ensures.steps.0 ∙ c.loop-bytes.invariant.2,
-      part_put g.O.Sink (hex_line c.args.row.now) (encode_lower bytes) (hex_line rest) c.loop-bytes.invariant.3 here
+      part_put g.O.Sink (hex_line c.args.line.now) (encode_lower bytes) (hex_line rest) c.loop-bytes.invariant.3 here
           c.in_ok-put_piece.ensures,
     )
 
