@@ -193,8 +193,8 @@ abbrev pub acquired_text : (tells : Res → List ℕ) → (name file : List ℕ)
 acquired_text tells name file (Ok res) = tells res
 acquired_text tells name file (Err error) = refused_text name file error
 
--- A resource was acquired; where its file was needed, it was asked for, and so was memory. `names` says what is the current wad
--- and the current map after an answer.
+-- A resource was acquired; where its file was needed, it was asked for, and so was memory. `names` says which are the current
+-- wad and the current map after an answer.
 abbrev pub with_acquired : (needed : Bool) → (tells : Res → List ℕ) → (names : Result Res AcquireError → State → State)
     → (name file : List ℕ) → State → Option Acquired → Did
 with_acquired needed tells names name file s None = Untold

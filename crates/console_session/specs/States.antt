@@ -48,7 +48,7 @@ abbrev pub cvars_in : Result (List Cvar) ℕ → List Cvar
 cvars_in (Ok cvars) = cvars
 cvars_in (Err asked) = []
 
--- At the start the cvars have their defaults, there is no alias, no resource, no current wad and no current map, the buffer is
+-- At the start the cvars have their defaults, there is no alias, no resource, no current wad and no map, the buffer is
 -- empty, and the host level is where the low hunk ends. Sounds are made for `speed` samples a second.
 abbrev pub started : Memory → PathSeen → (speed : ℕ) → State
 started m path speed = record {

@@ -13,7 +13,8 @@ ghost use Rattle.wad2_lumps.specs.Pictures.{pixels_end};
 ghost use Rattle.console_session.specs.Pictures.{picture_told};
 ghost use Rattle.console_session.specs.Telling.{Puts, acquired_told, refused_told, load_told, block_told, cvar_told, alias_told};
 ghost use Rattle.console_session.specs.Commands.{missing_text, beyond_text, short_text, full_text, long_name_text};
-ghost use Rattle.console_session.specs.Commands.{absent_text, block_text, map_text, not_map_text, not_wad_text, no_map_text, no_wad_text, spaced};
+ghost use Rattle.console_session.specs.Commands.{absent_text, block_text, map_text, not_map_text, not_wad_text};
+ghost use Rattle.console_session.specs.Commands.{no_map_text, no_wad_text, spaced};
 ghost use Rattle.console_session.specs.Commands.{exec_text, file_text, cvar_text, expansion_text, unknown_text};
 ghost use Rattle.console_session.specs.Commands.{alias_line, alias_lines, alias_list, mount_line, mount_lines};
 

@@ -3,8 +3,8 @@ ghost use Rattle.std.specs.Prelude.{◌≡◌, ◌≤◌, length, IfOk, IfSome, 
 ghost use Rattle.res_table.specs.Images.{IsImage};
 ghost use Rattle.wad2_lumps.specs.Lumps.{lump_in};
 ghost use Rattle.wad2_lumps.specs.Pictures.{pixels_end};
-ghost use Rattle.console_session.specs.Commands.{answer_acquire, answer_dump, answer_info, answer_map, answer_pic, answer_vis, answer_wad};
-ghost use Rattle.console_session.specs.Commands.{map_after, map_image, wad_image};
+ghost use Rattle.console_session.specs.Commands.{answer_acquire, answer_dump, answer_info, answer_map, answer_pic};
+ghost use Rattle.console_session.specs.Commands.{answer_vis, answer_wad, map_after, map_image, wad_image};
 ghost use Rattle.console_session.specs.Holding.{Holds};
 ghost use Rattle.console_session.specs.Pictures.{picture_of};
 ghost use Rattle.console_session.specs.Serving.{seen, Does};
