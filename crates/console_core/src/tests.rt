@@ -8,6 +8,7 @@ use std::process::Abort;
 
 mod commands;
 mod endings;
+mod games;
 mod maps;
 mod models;
 mod mounts;

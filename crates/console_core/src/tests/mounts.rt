@@ -13,13 +13,13 @@ type Given<'a, 'b> = (&'a [(&'static str, &'b [u8])], u64);
 const NEVER: u64 = 99;
 
 // A pack of these entries, by the name, the place and the length of each, and of the bytes behind its directory.
-fn pack(
+pub(super) fn pack(
     rt: &impl Abort,
     alloc: Global,
     entries: &[(&str, u32, u32)],
     tail: &[u8],
 ) -> Result<Vec<u8>, AllocError> {
-    assert!(rt; entries.len() < 10);
+    assert!(rt; entries.len() < 100);
     let mut bytes = Vec::from_slice(alloc, b"PACK\x0c\0\0\0")?;
     bytes.extend_from_slice(&(64 * entries.len() as u32).to_le_bytes())?;
     for (name, offset, length) in entries {
