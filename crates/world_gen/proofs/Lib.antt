@@ -1,0 +1,5 @@
+mod Examples
+pub mod DrawLaws
+pub mod LengthLaws
+pub mod PackLaws
+pub mod ScriptLaws
