@@ -11,7 +11,7 @@
 //! `report`.
 #![tactic(auto)]
 
-ghost use Rattle.std.specs.Prelude.{◌≡◌, IfOk};
+ghost use Rattle.std.specs.Prelude.{◌≡◌, ◌<◌, ◌^◌, IfOk, vec_len};
 ghost use Rattle.world_gen.specs.Packs.{pack_of};
 ghost use Rattle.world_gen.specs.Scripts.{script_of};
 
@@ -35,10 +35,11 @@ pub struct Generated {
 }
 
 /// The game of a number. An error is want of memory.
-#[tactic(auto, unfolding(crate::specs::Packs::pack_of, crate::specs::Scripts::script_of))]
+#[tactic(auto, using(crate::proofs::SizeLaws::size_laws), unfolding(crate::specs::Packs::pack_of, crate::specs::Scripts::script_of))]
 pub fn generate(alloc: Global, number: u32) -> Result<Generated, AllocError>
     ensures pack { IfOk result (λ game. game.pack.items ≡ pack_of number) }
     ensures script { IfOk result (λ game. game.script.items ≡ script_of number) }
+    ensures small { IfOk result (λ game. (vec_len game.pack < 2 ^ 32) × (vec_len game.script < 2 ^ 32)) }
 {
     let mut draws = Draws::new(number);
     let pack = packing::pack(alloc, &mut draws)?;
