@@ -11,9 +11,11 @@ ghost use Rattle.base_fields.specs.Names.{is_slash, is_dot, is_name_byte, is_gam
 use arrayvec::ArrayVec;
 use std::hash::{Hash, Hasher};
 use std::marker::Model;
+use thiserror::Error;
 
 /// The bytes of a word are not the name of a game file.
-#[derive(Clone, Copy, Debug, PartialEq, Eq)]
+#[derive(Clone, Copy, Debug, PartialEq, Eq, Error)]
+#[error("bad name")]
 pub struct BadName;
 
 /// The lawful name of a game file, as `game_name` makes it. Contracts see it as its bytes.

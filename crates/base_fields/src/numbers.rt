@@ -6,9 +6,11 @@ ghost use Rattle.std.specs.Char.{is_ascii_digit};
 ghost use Rattle.base_fields.specs.Numbers.{is_number_word, number_of};
 
 use std::str;
+use thiserror::Error;
 
 /// The bytes of a word are not a number of 1 to 9 decimal digits.
-#[derive(Clone, Copy, Debug, PartialEq, Eq)]
+#[derive(Clone, Copy, Debug, PartialEq, Eq, Error)]
+#[error("bad number")]
 pub struct BadNumber;
 
 /// The number that 1 to 9 decimal digits write, with any leading zeros. Every other word is refused,

@@ -14,6 +14,8 @@ ghost use Rattle.cmd_buffer.specs.AliasRecords.{alias_of, alias_in, is_same};
 
 use base_fields::{before_zero, put_u32, u32_at};
 use mem_model::{Place, Store, ZoneError};
+use std::error::Error;
+use std::fmt;
 use std::marker::Model;
 use zone_values::{put_value, replace_value, value_at};
 
@@ -51,6 +53,18 @@ pub struct Aliases {
     // the place of the newest record
     newest: Option<u32>,
 }
+
+impl fmt::Display for AliasError {
+    fn fmt<W: fmt::Write>(&self, f: &mut fmt::Formatter<W>) -> fmt::Result {
+        match self {
+            AliasError::LongName => f.write_str("Alias name is too long"),
+            AliasError::Zone(ZoneError::Full { asked }) => write!(f, "zone full: {asked} bytes"),
+            AliasError::Zone(ZoneError::OutOfMemory) => f.write_str("out of memory"),
+        }
+    }
+}
+
+impl Error for AliasError {}
 
 impl From<ZoneError> for AliasError {
     ghost use Rattle.cmd_buffer.specs.declared.aliases.AliasError.{AliasError};

@@ -8,6 +8,7 @@ ghost use Rattle.cmd_buffer.specs.Buffer.{fits_in, input, cut, IsCut, first_comm
 use arrayvec::ArrayVec;
 use base_fields::before_zero;
 use std::marker::Model;
+use thiserror::Error;
 
 /// How many bytes a buffer holds.
 pub const SPACE: usize = 8191;
@@ -28,7 +29,8 @@ pub enum Taken {
 }
 
 /// A buffer has no room for a text: it would hold more than 8191 bytes.
-#[derive(Clone, Copy, Debug, PartialEq, Eq)]
+#[derive(Clone, Copy, Debug, PartialEq, Eq, Error)]
+#[error("overflow")]
 pub struct Overflow;
 
 /// Command texts to be taken, one after another, at most 8191 bytes. Contracts see the bytes that are

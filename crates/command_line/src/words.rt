@@ -3,6 +3,7 @@ ghost use Rattle.std.specs.Prelude.{◌≡◌, ◌↔◌, ◌+◌, ◌<◌, ◌�
 ghost use Rattle.command_line.specs.CommandLine.{IsAsked, IsFirstBad};
 
 use crate::reading::Reading;
+use thiserror::Error;
 
 /// What the words ask for.
 #[derive(Clone, Copy, Debug, PartialEq, Eq)]
@@ -20,7 +21,8 @@ pub struct Request {
 }
 
 /// The words break the rule.
-#[derive(Clone, Copy, Debug, PartialEq, Eq)]
+#[derive(Clone, Copy, Debug, PartialEq, Eq, Error)]
+#[error("bad word {word}")]
 pub struct UsageError {
     /// The number of the first word that does, or the number of words where one is missing.
     pub word: u32,

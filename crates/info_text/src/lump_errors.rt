@@ -6,18 +6,23 @@ ghost use Rattle.info_text.specs.LumpErrors.{before_name, behind_name, lump_erro
 use crate::lump_names::shown;
 use outside_io::{Sink, SinkFailed};
 use reply_pieces::{Piece, put_all};
+use thiserror::Error;
 use wad2_lumps::LumpName;
 
 /// Why a lump of a wad isn't shown as a picture.
-#[derive(Clone, Copy, Debug, PartialEq, Eq)]
+#[derive(Clone, Copy, Debug, PartialEq, Eq, Error)]
 pub enum LumpError {
     /// The wad has no lump of the name.
+    #[error("no lump")]
     Absent,
     /// The first lump of the name is compressed.
+    #[error("compressed lump")]
     Compressed,
     /// The lump has another type than a picture's.
+    #[error("lump is no picture")]
     NotPicture,
     /// The picture is too large, or passes the end of the wad.
+    #[error("lump outside")]
     Outside,
 }
 

@@ -5,16 +5,21 @@ ghost use Rattle.outside_io.specs.Causes.{HasCause, one_more};
 ghost use Rattle.outside_io.specs.Files.{File, length_of, HasRange, IsPartOf};
 ghost use Rattle.outside_io.specs.Streams.{TakesFront, Adds, AddsFront};
 
+use thiserror::Error;
+
 /// A call of a folder failed.
-#[derive(Clone, Copy, Debug, PartialEq, Eq)]
+#[derive(Clone, Copy, Debug, PartialEq, Eq, Error)]
+#[error("folder read fault")]
 pub struct FolderFailed;
 
 /// A read of a source failed.
-#[derive(Clone, Copy, Debug, PartialEq, Eq)]
+#[derive(Clone, Copy, Debug, PartialEq, Eq, Error)]
+#[error("script read fault")]
 pub struct SourceFailed;
 
 /// A put to a sink failed.
-#[derive(Clone, Copy, Debug, PartialEq, Eq)]
+#[derive(Clone, Copy, Debug, PartialEq, Eq, Error)]
+#[error("write fault")]
 pub struct SinkFailed;
 
 /// A folder of files, in which the first file of a name counts.

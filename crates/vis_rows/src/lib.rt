@@ -14,13 +14,16 @@ ghost use Rattle.vis_rows.specs.Rows.{expand, first, front, row_of, row_width, t
 
 use base_fields::i32_at;
 use bsp29_build::{count, visibility, visleafs};
+use thiserror::Error;
 
 /// Why a leaf has no row.
-#[derive(Clone, Copy, Debug, PartialEq, Eq)]
+#[derive(Clone, Copy, Debug, PartialEq, Eq, Error)]
 pub enum VisError {
     /// There is no leaf of that number.
+    #[error("no leaf")]
     NoLeaf,
     /// The bytes end before the row does.
+    #[error("vis row truncated")]
     Truncated,
 }
 
