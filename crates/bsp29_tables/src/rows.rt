@@ -30,19 +30,6 @@ pub(crate) struct Counts {
     pub(crate) surfedges: u32,
 }
 
-// The lumps whose rows name others.
-const NAMING: [Lump; 9] = [
-    Lump::Nodes,
-    Lump::Texinfos,
-    Lump::Faces,
-    Lump::Clipnodes,
-    Lump::Leafs,
-    Lump::Marksurfaces,
-    Lump::Edges,
-    Lump::Surfedges,
-    Lump::Models,
-];
-
 #[tactic(auto, unfolding(crate::specs::Rows::counts_of))]
 fn counts_of(src: &[u8]) -> Counts
     requires long { 124 ≤ length src.now }
@@ -152,6 +139,7 @@ fn model_passes(counts: &Counts, number: u32, row: &[u8]) -> bool
 }
 
 // What a row of a lump names is there.
+#[inline(always)]
 fn row_passes(counts: &Counts, lump: Lump, number: u32, row: &[u8]) -> bool
     requires { row_size lump ≤ length row.now }
     ensures { result ≡ row_passes counts.now lump number row.now }
@@ -174,6 +162,7 @@ fn row_passes(counts: &Counts, lump: Lump, number: u32, row: &[u8]) -> bool
 }
 
 // The rows of a lump, one by one.
+#[inline(always)]
 fn check_lump_rows(src: &[u8], counts: &Counts, lump: Lump) -> Result<(), BspFault>
     requires { 124 ≤ length src.now }
     ensures { result ≡ each_from (row_check counts.now lump) 0 (rows_of src.now lump) }
@@ -192,15 +181,21 @@ fn check_lump_rows(src: &[u8], counts: &Counts, lump: Lump) -> Result<(), BspFau
     Ok(())
 }
 
-// The rows of the lumps that name others, one lump after the other.
+// The rows of the lumps that name others, one lump after the other. Each call is a loop of its own, with the test of its lump alone.
+#[tactic(auto, unfolding(crate::specs::Checks::each_from))]
 pub(crate) fn check_rows(src: &[u8]) -> Result<(), BspFault>
     requires long { 124 ≤ length src.now }
     requires table { table_check (lump_of src.now Textures) ≡ fine }
     ensures { result ≡ rows_check src.now }
 {
     let counts = counts_of(src);
-    for lump in NAMING {
-        check_lump_rows(src, &counts, lump)?;
-    }
-    Ok(())
+    check_lump_rows(src, &counts, Lump::Nodes)?;
+    check_lump_rows(src, &counts, Lump::Texinfos)?;
+    check_lump_rows(src, &counts, Lump::Faces)?;
+    check_lump_rows(src, &counts, Lump::Clipnodes)?;
+    check_lump_rows(src, &counts, Lump::Leafs)?;
+    check_lump_rows(src, &counts, Lump::Marksurfaces)?;
+    check_lump_rows(src, &counts, Lump::Edges)?;
+    check_lump_rows(src, &counts, Lump::Surfedges)?;
+    check_lump_rows(src, &counts, Lump::Models)
 }
