@@ -7,7 +7,6 @@ ghost use Rattle.reply_pieces.specs.Pieces.{PutsText};
 ghost use Rattle.block_report.specs.Reports.{rows_of, title, label, row_line, part_lines};
 ghost use Rattle.block_report.specs.Reports.{sizes_line, rover_line, user_line, user_lines, section_text, report_text};
 
-use base_fields::before_zero;
 use mem_model::{BlockRow, Store};
 use outside_io::{Sink, SinkFailed};
 use reply_pieces::{Piece, put_all};
@@ -76,7 +75,7 @@ impl Part {
         match self {
             Part::Zone if row.used => b"used",
             Part::Zone => b"free",
-            _ => before_zero(&row.name),
+            _ => row.name_bytes(),
         }
     }
 

@@ -1,7 +1,7 @@
 -- How long the image is, and what stands where in it.
 use Rattle.std.proofs.Common.{◌≡◌, ℕ, zero, suc, ◌+◌, ◌*◌, ◌≤◌, ◌<◌, ◌^◌, List, [], ◌∷◌, ◌++◌, length}
 use Rattle.std.proofs.Common.{Some, Ok, Err, refl, sym, ap, subst, ◌∙◌, arith}
-use Rattle.std.specs.Prelude.{IsOkAnd, slice_get}
+use Rattle.std.specs.Prelude.{IsOk, IsOkAnd, IfOk, slice_get}
 use Rattle.std.specs.List.{sum_by}
 use Rattle.std.proofs.lemmas.List.{length-append, append_assoc}
 use Rattle.std.proofs.lemmas.List.Sums.{sum_by-cons}
@@ -75,9 +75,23 @@ room_of file n there =
     let both = fine_where (image file) (λ made. length made ≡ n) (check_of file) there in
     sym both.1 ∙ image_long file both.0
 
+fine_ok : (made : List ℕ) (check : Checked) → IsOk (where_fine made check) → check ≡ fine
+fine_ok made (Ok nothing) there = refl
+fine_ok made (Err fault) there = absurd cc
+
+pub fine_is_ok : (file : List ℕ) → IsOk (image_of file) → check_of file ≡ fine
+unfolding image_of
+fine_is_ok file there = fine_ok (image file) (check_of file) there
+
+pub long_ok : (file : List ℕ) (n : ℕ) → check_of file ≡ fine → n ≡ image_size file → IfOk (image_of file) (λ made. n ≡ length made)
+unfolding image_of
+long_ok file n e is = rw e (is ∙ sym (image_long file e))
+
 pub image_made : (file block : List ℕ) → check_of file ≡ fine → block ≡ image file → image_of file ≡ Ok block
 unfolding image_of
 image_made file block e is = rw (e, is) refl
+
+pub ruleset counted_laws = (fine_is_ok, long_ok)
 
 pub ruleset size_laws = (size_is, fault_is)
 

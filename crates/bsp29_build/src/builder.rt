@@ -1,5 +1,5 @@
 // The builder of brush models.
-ghost use Rattle.std.specs.Prelude.{◌≡◌, length, Ok, IsOkAnd};
+ghost use Rattle.std.specs.Prelude.{◌≡◌, length, Ok, IsOk, IsOkAnd, IfOk};
 ghost use Rattle.mem_model.specs.Images.{image_size};
 ghost use Rattle.bsp29_build.specs.Images.{image_of};
 
@@ -20,6 +20,15 @@ fn image_length(source: &[u8]) -> Result<u64, BspFault>
     Ok(bsp29_tables::image_size(source))
 }
 
+// The length of the image of a file that is known to have one.
+#[tactic(auto, using(crate::proofs::FineLaws::fine_laws, crate::proofs::ImageLaws::counted_laws))]
+fn counted_length(source: &[u8]) -> u64
+    requires { IsOk (image_of source.now) }
+    ensures { IfOk (image_of source.now) (λ image. result ≡ length image) }
+{
+    bsp29_tables::image_size(source)
+}
+
 // The block becomes the image.
 #[tactic(auto, using(crate::proofs::ImageLaws::image_laws))]
 fn fill(block: &mut [u8], source: &[u8])
@@ -36,6 +45,11 @@ impl Builder for BspBuilder {
 
     fn size(&self, source: &[u8]) -> Result<u64, BspFault> {
         image_length(source)
+    }
+
+    // The file has passed its tests before: they aren't made again.
+    fn length(&self, source: &[u8]) -> u64 {
+        counted_length(source)
     }
 
     fn build(&self, source: &[u8], block: &mut [u8]) {

@@ -310,6 +310,9 @@ unfolding with_high
 Laid-high_grown m b top laid block fits none tops = rw tops (sound-with_high m b laid block fits none).laid
 
 -- Each operation keeps a memory laid out.
+pub Laid-without_temp : (m : Memory) → Laid m → Laid (without_temp m)
+Laid-without_temp m laid = (sound-without_temp m laid).laid
+
 pub Laid-low_alloc : (m : Memory) (size : ℕ) (name : List ℕ) → Laid m → IsText name → Laid (low_alloc m size name).after
 Laid-low_alloc m size name laid text = (sound-low_alloc m size name laid text).laid
 

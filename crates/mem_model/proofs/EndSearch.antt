@@ -1,5 +1,5 @@
 -- What a search among the places where blocks end comes to.
-use Rattle.std.proofs.Common.{◌≡◌, ◌≢◌, ℕ, suc, zero, ◌+◌, ◌<◌, ◌≤◌, List, [], ◌∷◌, Some, None, length, take, set, get_or, refl, sym, ap, ◌∙◌, subst, true, false, arith, add-one, zero-add, eq-eqb, inl, inr}
+use Rattle.std.proofs.Common.{◌≡◌, ◌≢◌, ℕ, suc, zero, ◌+◌, ◌-◌, ◌<◌, ◌≤◌, List, [], ◌∷◌, Some, None, length, take, set, get_or, refl, sym, ap, ◌∙◌, subst, true, false, arith, add-one, zero-add, eq-eqb, inl, inr}
 use Rattle.std.specs.Prelude.{slice_get, Option, Result, Ok, Err, MatchOption, MatchResult, IsSome}
 use Rattle.std.specs.Option.{option_map}
 use Rattle.std.specs.Result.{result_ok}
@@ -7,13 +7,15 @@ use Rattle.std.specs.List.{AllByRecursion}
 use Rattle.std.specs.List.Sorted.{IsBinarySearchResult}
 use Rattle.std.specs.Ordering.{nat_cmp}
 use Rattle.std.proofs.lemmas.Bool.{cases_lt, ne_eqb}
+use Rattle.std.proofs.lemmas.Bool.Decides.{eqb_tells}
 use Rattle.std.proofs.lemmas.List.Sorted.{searched}
 use Rattle.std.proofs.lemmas.Option.{slice_get-get_or}
 use Rattle.mem_model.specs.Blocks.{HunkBlock}
 use Rattle.mem_model.specs.Memory.{size_of}
-use Rattle.mem_model.specs.Hunk.{bytes_from, bytes_above, with_bytes_from, with_bytes, cut_from, cut_above}
+use Rattle.mem_model.specs.Hunk.{bytes_from, bytes_above, bytes_down, with_bytes_down, with_bytes_from, with_bytes, cut_from, cut_above}
 use Rattle.mem_model.specs.Laid.{IsHunkBlock, AreLowBlocks}
-use Rattle.mem_model.specs.Plain.{ends_from, IsAt, IsCut, IsHighCut}
+use Rattle.mem_model.specs.Plain.{ends_from, IsAt, IsCut, IsHighAt, IsHighCut}
+use Rattle.mem_model.proofs.Ends.{length-ends}
 
 -- where the blocks begin, and where the last of them ends
 abbrev bounds : ℕ → List HunkBlock → List ℕ
@@ -164,3 +166,62 @@ high_cut high mark r last laid some found is =
 pub high_cut-none : (high : List HunkBlock) (mark : ℕ) → mark ≡ 0 → IsHighCut high mark 0
 high_cut-none [] mark e = rw e (record { kept = refl; ends = refl })
 high_cut-none (b ∷ bs) mark e = rw e (record { kept = refl; ends = refl })
+
+-- The blocks that lie downwards from `end` end from `start` on: what is read and written at a place where one of them ends.
+read_down : (end start : ℕ) (blocks : List HunkBlock) (i mark place : ℕ) (b : HunkBlock) → AllByRecursion IsHunkBlock blocks → size_of blocks ≤ end → mark + place ≡ (end + start) + 16 → slice_get (ends_from start blocks) i ≡ Some mark → slice_get blocks i ≡ Some b →
+    bytes_down end blocks place ≡ Some b.bytes
+read_down end start [] i mark place b laid fits e h is = absurd (cc)
+read_down end start (c ∷ cs) zero mark place b laid fits e h is =
+    let here : start + c.size ≡ mark = cc in
+    let same : c ≡ b = cc in
+    rw (eq-eqb ((end - c.size) + 16) place (omega (arith, here, e, fits))) (ap (λ (x : HunkBlock). Some x.bytes) same)
+read_down end start (c ∷ cs) (suc i) mark place b laid fits e h is =
+    rw (ne_eqb ((end - c.size) + 16) place (λ same. absurd (omega (arith, same, e, fits, least_end (start + c.size) cs i mark laid.1 h))))
+    (read_down (end - c.size) (start + c.size) cs i mark place b laid.1 (omega (arith, fits)) (omega (arith, e, fits)) h is)
+
+written_down : (end start : ℕ) (blocks : List HunkBlock) (i mark place : ℕ) (b : HunkBlock) (bytes : List ℕ) → AllByRecursion IsHunkBlock blocks → size_of blocks ≤ end → mark + place ≡ (end + start) + 16 → slice_get (ends_from start blocks) i ≡ Some mark → slice_get blocks i ≡ Some b →
+    with_bytes_down end blocks place bytes ≡ set blocks i (with_bytes b bytes)
+written_down end start [] i mark place b bytes laid fits e h is = absurd (cc)
+written_down end start (c ∷ cs) zero mark place b bytes laid fits e h is =
+    let here : start + c.size ≡ mark = cc in
+    let same : c ≡ b = cc in
+    rw (eq-eqb ((end - c.size) + 16) place (omega (arith, here, e, fits))) (ap (λ (x : HunkBlock). with_bytes x bytes ∷ cs) same)
+written_down end start (c ∷ cs) (suc i) mark place b bytes laid fits e h is =
+    rw (ne_eqb ((end - c.size) + 16) place (λ same. absurd (omega (arith, same, e, fits, least_end (start + c.size) cs i mark laid.1 h))))
+    (ap (λ xs. c ∷ xs) (written_down (end - c.size) (start + c.size) cs i mark place b bytes laid.1 (omega (arith, fits)) (omega (arith, e, fits)) h is))
+
+unread_down : (end start : ℕ) (blocks : List HunkBlock) (place : ℕ) → size_of blocks ≤ end → ((k : ℕ) → k < length (ends_from start blocks) → get_or (ends_from start blocks) k 0 + place ≢ (end + start) + 16) → bytes_down end blocks place ≡ None
+unread_down end start [] place fits off = refl
+unread_down end start (c ∷ cs) place fits off =
+    rw (ne_eqb ((end - c.size) + 16) place (λ same. (let here : (start + c.size) + place ≡ (end + start) + 16 = omega (arith, same, fits) in off 0 (omega arith) here)))
+    (unread_down (end - c.size) (start + c.size) cs place (omega (arith, fits)) (λ k l same. off (suc k) (omega (arith, l)) (omega (arith, same, fits))))
+
+-- No payload lies further up than the header's size behind the end.
+pub payload_most : (end : ℕ) (blocks : List HunkBlock) (place : ℕ) → IsSome (bytes_down end blocks place) → place ≤ end + 16
+payload_most end [] place there = absurd (cc)
+payload_most end (b ∷ bs) place there = elim (eqb_tells ((end - b.size) + 16) place) [
+  | inl at ↦ omega (arith, at.1)
+  | inr off ↦ let rest : IsSome (bytes_down (end - b.size) bs place) = rw off.0 at there in omega (arith, payload_most (end - b.size) bs place rest)
+]
+
+-- The high block of a payload's place is the one that ends as far below the arena's end as its header is.
+pub high_found : (top : ℕ) (high : List HunkBlock) (mark place : ℕ) (r : Result ℕ ℕ) → AllByRecursion IsHunkBlock high → size_of high ≤ top → mark + place ≡ top + 16 → IsSome (bytes_down top high place) → IsBinarySearchResult (λ y. nat_cmp y mark) (ends_from 0 high) r →
+    MatchResult r (λ i. IsHighAt top high place i) (λ i. ⊥)
+high_found top high mark place r laid fits e there found =
+    by_result r (searched (ends_from 0 high) mark r found (λ i j h l. rising 0 high laid (suc i) (suc j) (omega (arith, h)) (omega (arith, l))))
+  where
+    by_result : (q : Result ℕ ℕ) → MatchResult q (λ i. (i < length (ends_from 0 high)) × (get_or (ends_from 0 high) i 0 ≡ mark)) (λ i. (i ≤ length (ends_from 0 high)) × ((k : ℕ) → k < i → get_or (ends_from 0 high) k 0 < mark) × ((k : ℕ) → i ≤ k → k < length (ends_from 0 high) → mark < get_or (ends_from 0 high) k 0)) →
+        MatchResult q (λ i. IsHighAt top high place i) (λ i. ⊥)
+    by_result (Ok i) at =
+        let here : slice_get (ends_from 0 high) i ≡ Some mark = slice_get-get_or (ends_from 0 high) i 0 at.0 ∙ ap Some at.1 in
+        record {
+          inside = omega (arith, at.0, length-ends 0 high);
+          reads = λ b is. read_down top 0 high i mark place b laid fits (omega (arith, e)) here is;
+          writes = λ b bytes is. written_down top 0 high i mark place b bytes laid fits (omega (arith, e)) here is;
+        }
+    by_result (Err i) at =
+        let none = unread_down top 0 high place fits (λ k l same. elim (cases_lt k i) [
+          | inl before ↦ absurd (omega (arith, at.1 k before, same, e))
+          | inr behind ↦ absurd (omega (arith, at.2 k behind l, same, e))
+        ]) in
+        let empty : false ≡ true = rw none at there in cc

@@ -34,5 +34,7 @@ pub mod CacheBytes
 pub mod CacheImages
 pub mod CacheLaws
 pub mod Building
+pub mod HighBytes
+pub mod HighLaws
 pub mod Keeping
 pub mod Moving

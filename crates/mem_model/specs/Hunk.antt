@@ -97,3 +97,26 @@ with_temp_bytes_of m bytes (Some mark) = record m { high = with_last_bytes m.hig
 -- the memory with bytes written into that block
 unfoldable pub with_temp_bytes : Memory → List ℕ → Memory
 with_temp_bytes m bytes = with_temp_bytes_of m bytes m.temp
+
+-- the bytes of the block whose payload is at this place, where the blocks lie downwards from `end`
+abbrev pub bytes_down : ℕ → List HunkBlock → ℕ → Option (List ℕ)
+bytes_down end [] place = None
+bytes_down end (b ∷ bs) place = if nat_eq ((end - b.size) + 16) place then Some b.bytes else bytes_down (end - b.size) bs place
+
+-- the blocks with bytes written into that one
+abbrev pub with_bytes_down : ℕ → List HunkBlock → ℕ → List ℕ → List HunkBlock
+with_bytes_down end [] place bytes = []
+with_bytes_down end (b ∷ bs) place bytes =
+    if nat_eq ((end - b.size) + 16) place then with_bytes b bytes ∷ bs else b ∷ with_bytes_down (end - b.size) bs place bytes
+
+-- the bytes of the high block whose payload is at this place, that of an active temporary block included
+unfoldable pub high_bytes : Memory → ℕ → Option (List ℕ)
+high_bytes m place = bytes_down m.size m.high place
+
+-- the memory with bytes written into that block
+unfoldable pub with_high_bytes : Memory → ℕ → List ℕ → Memory
+with_high_bytes m place bytes = record m { high = with_bytes_down m.size m.high place bytes }
+
+-- the same bytes where the block is not the temporary one, so that it lasts until it is freed by a mark
+unfoldable pub lasting_bytes : Memory → ℕ → Option (List ℕ)
+lasting_bytes m place = high_bytes (without_temp m) place

@@ -4,7 +4,7 @@ use Rattle.mem_model.specs.Blocks.{HunkBlock, ZoneBlock}
 use Rattle.mem_model.specs.Memory.{Memory, room, size_of}
 use Rattle.mem_model.specs.Cache.{block_of}
 use Rattle.mem_model.specs.Places.{cache_need}
-use Rattle.mem_model.specs.Hunk.{bytes_above, with_bytes_above, with_bytes, cut_above, cut_from, last_bytes, with_last_bytes}
+use Rattle.mem_model.specs.Hunk.{bytes_above, with_bytes_above, bytes_down, with_bytes_down, with_bytes, cut_above, cut_from, last_bytes, with_last_bytes}
 use Rattle.mem_model.specs.Zone.{used_bytes_from, with_payload, with_payload_from}
 
 -- where each of the blocks ends, the first of which begins at `start`
@@ -28,6 +28,12 @@ pub record IsCut (blocks : List HunkBlock) (mark n : ℕ) : Type 0 where
 pub record IsHighCut (blocks : List HunkBlock) (mark n : ℕ) : Type 0 where
   pub kept : cut_from 0 blocks mark ≡ Some (take n blocks)
   pub ends : size_of (take n blocks) ≡ mark
+
+-- Of the high blocks, which lie downwards from `top`, that of this payload's place is the one at position i.
+pub record IsHighAt (top : ℕ) (blocks : List HunkBlock) (place i : ℕ) : Type 0 where
+  pub inside : i < length blocks
+  pub reads : (b : HunkBlock) → slice_get blocks i ≡ Some b → bytes_down top blocks place ≡ Some b.bytes
+  pub writes : (b : HunkBlock) (bytes : List ℕ) → slice_get blocks i ≡ Some b → with_bytes_down top blocks place bytes ≡ slice_set blocks i (with_bytes b bytes)
 
 -- A new block of the user is given, and takes so much: the user has none, and there is room.
 pub record IsGiven (m : Memory) (user size need : ℕ) : Type 0 where

@@ -2,13 +2,13 @@
 
 ghost use Rattle.std.specs.Prelude.{◌≡◌, ◌<◌, ◌≤◌, ◌^◌, ◌+◌, ◌↔◌, ℕ, List, length, IfOk, IfErr, IsOkAnd, Err, IsSome, MatchOption, Some, None, false, true};
 ghost use Rattle.mem_model.specs.Memory.{new_memory};
-ghost use Rattle.mem_model.specs.Hunk.{bytes_above, cut_above, cut_from, last_bytes, low_bytes, over, without_temp};
+ghost use Rattle.mem_model.specs.Hunk.{bytes_above, bytes_down, cut_above, cut_from, last_bytes, low_bytes, over, without_temp};
 ghost use Rattle.mem_model.specs.Images.{HasBytes, front_of};
 ghost use Rattle.mem_model.specs.Operations.{cache_alloc, high_taken};
 ghost use Rattle.mem_model.specs.Answer.{Gives};
 ghost use Rattle.mem_model.specs.Told.{cache_answer, room_answer};
 ghost use Rattle.mem_model.specs.Places.{hunk_need, zone_need, cache_need};
-ghost use Rattle.mem_model.specs.Plain.{IsAt, IsCut, IsGiven, IsHighCut, IsLast};
+ghost use Rattle.mem_model.specs.Plain.{IsAt, IsCut, IsGiven, IsHighAt, IsHighCut, IsLast};
 ghost use Rattle.mem_model.specs.Laid.{Laid, IsMultiple, IsText};
 
 use crate::answers::{
@@ -107,10 +107,8 @@ fn build_front<B: Builder>(bytes: &mut [u8], source: &[u8], builder: &B)
     requires image { IsOkAnd (B.image_of builder.now source.now) (λ image. length image ≤ length bytes.old) }
     ensures { IfOk (B.image_of builder.now source.now) (λ image. bytes.new ≡ over bytes.old image) }
 {
-    match builder.size(source) {
-        Ok(size) => builder.build(source, &mut bytes[..size as usize]),
-        Err(_) => unreachable!(),
-    }
+    let size = builder.length(source) as usize;
+    builder.build(source, &mut bytes[..size]);
 }
 
 impl PlainStore {
@@ -156,6 +154,17 @@ impl PlainStore {
     {
         match self.low_ends.binary_search(&(place - 16)) {
             Ok(before) => before + 1,
+            Err(_) => unreachable!(),
+        }
+    }
+
+    // The position of the high block whose payload is at this place. It ends where its header is.
+    fn high_position(&self, place: u32) -> usize
+        requires { IsSome (bytes_down self.now.size self.now.high place) }
+        ensures { IsHighAt self.now.size self.now.high place result }
+    {
+        match self.high_ends.binary_search(&(self.size + 16 - place)) {
+            Ok(at) => at,
             Err(_) => unreachable!(),
         }
     }
@@ -260,7 +269,7 @@ impl PlainStore {
 
 impl Store for PlainStore {
     ghost use Rattle.std.specs.Prelude.{false, refl};
-    ghost use Rattle.mem_model.specs.Hunk.{with_low_bytes, with_temp_bytes};
+    ghost use Rattle.mem_model.specs.Hunk.{with_low_bytes, with_high_bytes, with_temp_bytes};
     ghost use Rattle.mem_model.specs.Zone.{with_zone_bytes};
 
     ghost state = { λ m. m };
@@ -268,6 +277,8 @@ impl Store for PlainStore {
     ghost frugal = { false };
 
     ghost low_written = { with_low_bytes };
+
+    ghost high_written = { with_high_bytes };
 
     ghost temp_written = { with_temp_bytes };
 
@@ -316,6 +327,15 @@ impl Store for PlainStore {
     fn high_alloc(&mut self, size: u64, name: &[u8]) -> Result<Place, RoomError> {
         self.free_temp();
         self.take_high(size, name)
+    }
+
+    fn high_bytes(&self, place: Place) -> &[u8] {
+        self.high[self.high_position(place.0)].bytes()
+    }
+
+    fn high_bytes_mut(&mut self, place: Place) -> &mut [u8] {
+        let at = self.high_position(place.0);
+        self.high[at].bytes_mut()
     }
 
     fn high_mark(&mut self) -> u32 {
@@ -509,6 +529,8 @@ impl Store for PlainStore {
     }
 
     ghost low_writes = { λ s place bytes. refl };
+
+    ghost high_writes = { λ s place bytes. refl };
 
     ghost temp_writes = { λ s bytes. refl };
 

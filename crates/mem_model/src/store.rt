@@ -10,7 +10,7 @@ ghost use Rattle.mem_model.specs.Operations.{low_alloc, low_free, high_alloc, hi
 ghost use Rattle.mem_model.specs.Operations.{build_low, build_cache, copy_low_to_cache, move_low_to_cache};
 ghost use Rattle.mem_model.specs.Images.{HasBytes, front_of};
 ghost use Rattle.mem_model.specs.Cache.{peek_bytes, peek_place};
-ghost use Rattle.mem_model.specs.Hunk.{low_bytes, with_low_bytes, temp_bytes, with_temp_bytes, without_temp};
+ghost use Rattle.mem_model.specs.Hunk.{low_bytes, with_low_bytes, high_bytes, with_high_bytes, temp_bytes, with_temp_bytes, without_temp};
 ghost use Rattle.mem_model.specs.Zone.{zone_bytes, with_zone_bytes, rover_place};
 ghost use Rattle.mem_model.specs.Laid.{Laid, IsText};
 
@@ -27,6 +27,9 @@ pub trait Store: Drop {
 
     /// The store with these bytes in a low block.
     ghost low_written: { Self → ℕ → List ℕ → Self };
+
+    /// The store with these bytes in a high block.
+    ghost high_written: { Self → ℕ → List ℕ → Self };
 
     /// The store with these bytes in the active temporary block.
     ghost temp_written: { Self → List ℕ → Self };
@@ -87,6 +90,20 @@ pub trait Store: Drop {
             (room_answer result) (state self.new) }
         ensures was_laid { Laid (state self.old) }
         ensures laid { Laid (state self.new) };
+
+    /// The bytes of a high block, or of the active temporary block at its place.
+    fn high_bytes(&self, place: Place) -> &[u8]
+        requires { IsSome (high_bytes (state self.now) place.0) }
+        ensures shows { high_bytes (state self.now) place.0 ≡ Some result.now }
+        ensures laid { Laid (state self.now) };
+
+    /// The bytes of a high block, or of the active temporary block at its place, to be written.
+    fn high_bytes_mut(&mut self, place: Place) -> &mut [u8]
+        requires { IsSome (high_bytes (state self.old) place.0) }
+        ensures* writes_back { sem 𝓛 (Lends Self.row (Array byte 0) self.entry result
+            (high_written self.old place.0)) }
+        ensures shows { high_bytes (state self.old) place.0 ≡ Some result.now }
+        ensures laid { Laid (state self.old) };
 
     /// Frees an active temporary block, and answers the sizes of the high hunk's blocks, added up.
     fn high_mark(&mut self) -> u32
@@ -313,6 +330,10 @@ pub trait Store: Drop {
     /// What is written through the bytes that a call lends becomes the bytes of that block, and all else stays.
     ghost low_writes: { (s : Self) (place : ℕ) (bytes : List ℕ) →
         state (low_written s place bytes) ≡ with_low_bytes (state s) place bytes };
+
+    /// The same of a high block.
+    ghost high_writes: { (s : Self) (place : ℕ) (bytes : List ℕ) →
+        state (high_written s place bytes) ≡ with_high_bytes (state s) place bytes };
 
     /// The same of the temporary block.
     ghost temp_writes: { (s : Self) (bytes : List ℕ) →

@@ -6,7 +6,7 @@ ghost use Rattle.std.specs.Prelude.{◌≡◌, ◌≢◌, ◌≤◌, ◌<◌, �
 ghost use Rattle.mem_model.specs.Memory.{new_memory};
 ghost use Rattle.mem_model.specs.Keeps.{AreLow, Keeps};
 ghost use Rattle.mem_model.specs.Cache.{peek_bytes};
-ghost use Rattle.mem_model.specs.Hunk.{low_bytes, temp_bytes};
+ghost use Rattle.mem_model.specs.Hunk.{lasting_bytes, low_bytes, temp_bytes};
 ghost use Rattle.mem_model.specs.Zone.{zone_bytes};
 ghost use Rattle.mem_model.specs.Images.{HasBytes, front_of};
 
@@ -46,6 +46,7 @@ fn low_blocks_of_a_plain_store(rt: HostRuntime) -> Result<(), Fail> {
 
 #[test]
 fn high_blocks_of_a_plain_store(rt: HostRuntime) -> Result<(), Fail> {
+    high_blocks_keep_what_is_written(&rt, plain(rt.alloc())?)?;
     the_high_hunk_has_one_temporary_block(&rt, plain(rt.alloc())?)?;
     rows_go_upwards(&rt, plain(rt.alloc())?)
 }
@@ -165,6 +166,33 @@ fn reads_back_high<M: Store>(store: &mut M, text: &[u8]) -> Result<bool, RoomErr
         Some(bytes) => Ok(bytes.starts_with(text)),
         None => Ok(false),
     }
+}
+
+// Puts a text into a new high block, which lasts.
+#[tactic(auto, using(crate::proofs::HighLaws::high_laws))]
+fn puts_high<M: Store>(store: &mut M, text: &[u8]) -> Result<Place, RoomError>
+    requires small { length text.now ≤ 2 ^ 20 }
+    ensures { IfOk result (λ place. IsSome (lasting_bytes (M.state store.new) place.0)) }
+{
+    let place = store.high_alloc(text.len() as u64, b"video")?;
+    put(store.high_bytes_mut(place), text);
+    Ok(place)
+}
+
+// Reads it back behind a temporary block.
+#[tactic(auto, using(crate::proofs::HighLaws::high_laws))]
+fn reads_back_lasting<M: Store>(store: &mut M, text: &[u8]) -> Result<bool, RoomError>
+    requires small { length text.now ≤ 2 ^ 20 }
+{
+    let place = puts_high(store, text)?;
+    store.temp_alloc(100)?;
+    Ok(store.high_bytes(place).starts_with(text))
+}
+
+fn high_blocks_keep_what_is_written<M: Store>(rt: &impl Abort, mut store: M) -> Result<(), Fail> {
+    assert!(rt; reads_back_lasting(&mut store, b"pixels")?);
+    assert!(rt; reads_back_lasting(&mut store, b"more pixels than a header has")?);
+    Ok(())
 }
 
 fn the_high_hunk_has_one_temporary_block<M: Store>(

@@ -45,6 +45,16 @@ impl Builder for ImageBuilder {
         }
     }
 
+    fn length(&self, source: &[u8]) -> u64 {
+        match self.kind {
+            Kind::Brush => BspBuilder.length(source),
+            Kind::Alias => AliasBuilder.length(source),
+            Kind::Sprite => SpriteBuilder.length(source),
+            Kind::Wad => WadBuilder.length(source),
+            Kind::Sound => WavBuilder { speed: self.speed }.length(source),
+        }
+    }
+
     fn build(&self, source: &[u8], block: &mut [u8]) {
         match self.kind {
             Kind::Brush => BspBuilder.build(source, block),
