@@ -1,5 +1,5 @@
 -- What a console keeps stays over the steps of its commands.
-use Rattle.std.proofs.Common.{◌≡◌, ◌≢◌, ℕ, List, [], ◌∷◌, Bool, Some, None, Option, Result, Ok, Err, sym, ap, ◌∙◌, subst}
+use Rattle.std.proofs.Common.{◌≡◌, ◌≢◌, ℕ, List, [], ◌∷◌, Bool, false, Some, None, Option, Result, Ok, Err, sym, ap, ◌∙◌, subst}
 use Rattle.std.proofs.lemmas.List.Elements.{All-nil}
 use Rattle.mem_model.specs.Memory.{Memory, new_memory}
 use Rattle.mem_model.specs.Laid.{Laid, IsText}
@@ -72,6 +72,10 @@ holds_buffer s buffer h text = record { laid = h.laid; resources = h.resources; 
 pub holds_names : (s : State) (wad map : Option (List ℕ)) → Holds s → Holds (record s { wad = wad; map = map })
 holds_names s wad map h = record { laid = h.laid; resources = h.resources; level = h.level; text = h.text; cvars = h.cvars; aliases = h.aliases; apart = h.apart }
 
+-- what is handed over
+pub holds_handed : (s : State) (hands : Bool) (handed : Option (List ℕ)) → Holds s → Holds (record s { hands = hands; handed = handed })
+holds_handed s hands handed h = record { laid = h.laid; resources = h.resources; level = h.level; text = h.text; cvars = h.cvars; aliases = h.aliases; apart = h.apart }
+
 pub holds_level : (s : State) (level : ℕ) → Holds s → IsLowMark s.memory.low level → Holds (record s { level = level })
 holds_level s level h is = record { laid = h.laid; resources = h.resources; level = is; text = h.text; cvars = h.cvars; aliases = h.aliases; apart = h.apart }
 
@@ -120,7 +124,7 @@ zone_after_low m n size name frugal None given = ap (λ (x : Memory). x.zone) gi
 zone_after_low m n size name frugal (Some reply) given = ap (λ (x : Memory). x.zone) given.after ∙ zone-low_alloc m size name
 
 -- at the start
-pub holds_first : (m : Memory) (path : PathSeen) (table : Resources) (level : ℕ) (cvars : List Cvar) → Laid m → AreHeld path.mounts table m → IsLowMark m.low level → HoldsCvars m cvars → Holds (record { memory = m; path = path; table = table; buffer = []; level = level; cvars = cvars; newest = None; wad = None; map = None })
+pub holds_first : (m : Memory) (path : PathSeen) (table : Resources) (level : ℕ) (cvars : List Cvar) → Laid m → AreHeld path.mounts table m → IsLowMark m.low level → HoldsCvars m cvars → Holds (record { memory = m; path = path; table = table; buffer = []; level = level; cvars = cvars; newest = None; wad = None; map = None; hands = false; handed = None })
 holds_first m path table level cvars laid resources mark holds = record {
   laid = laid;
   resources = resources;

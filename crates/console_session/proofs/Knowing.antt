@@ -1,7 +1,7 @@
 -- Where all mounts are told, each command is, and each run is told to its end.
 use Prim.Native.Nat.{zero, suc}
 use Rattle.std.proofs.Common.{◌≡◌, ℕ, List, [], length, map, Bool, true, false, eqb, Option, Some, None, option_map, Result, Ok, Err, refl, sym, ◌∙◌, ap, subst, if◌then◌else◌}
-use Rattle.std.specs.Prelude.{codes, is_none}
+use Rattle.std.specs.Prelude.{◌&&◌, codes, is_none}
 use Rattle.std.specs.Option.{option_or}
 use Rattle.base_fields.specs.Names.{is_game_name}
 use Rattle.mem_model.specs.Memory.{Memory}
@@ -23,7 +23,7 @@ use Rattle.res_table.specs.declared.kinds.Kind.{Kind}
 use Rattle.res_table.specs.declared.kinds.Table.{Table}
 use Rattle.res_table.specs.declared.kinds.Table.TheVariants.{Models, Sounds}
 use Rattle.console_session.specs.States.{State, Done, Did, Told, Untold, says}
-use Rattle.console_session.specs.Commands.{acquire_named, answer_acquire, answer_map, answer_wad, cleared, map_in, map_text, wad_text, of_map_and_leaf, map_image, same_names, takes_map, takes_wad, bad_name, by_image, by_resource, table_in, with_acquired, word_at, with_load, with_told, by_load, shown_file, inserted_file, of_number_and_name, reserve_block, video_block, list_aliases, make_alias, make_cvar, cvar_text, by_cvar, by_alias, by_verb, by_words, by_text, command, name_in, number_in}
+use Rattle.console_session.specs.Commands.{acquire_named, answer_acquire, answer_map, answer_wad, cleared, map_in, map_text, wad_text, of_map_and_leaf, map_image, same_names, takes_map, takes_wad, bad_name, by_image, by_resource, table_in, with_acquired, word_at, with_load, with_told, by_load, shown_file, inserted_file, of_number_and_name, reserve_block, video_block, list_aliases, make_alias, make_cvar, cvar_text, by_cvar, by_alias, by_verb, by_words, by_text, are_strange, hand_over, command, name_in, number_in}
 use Rattle.console_session.specs.Verbs.{verb_of}
 use Rattle.console_session.specs.Frames.{Ended, Ran, ending, gone_on, continued, frame, overflowed, line, IsRun, IsCutShort, GoesAs, Runs}
 use Rattle.console_session.specs.declared.ends.Fault.{Fault}
@@ -147,7 +147,7 @@ module _ (s : State) (mounts : List Mount) (told : AllTold s mounts) where
 
   knows_text : (text : Option (List ℕ)) → Knows s (by_text text s)
   knows_text None = refl
-  knows_text (Some text) = knows_words (words_of text)
+  knows_text (Some text) = by_test s (s.hands && are_strange (words_of text) s) (hand_over text s) (by_words (words_of text) s) refl (knows_words (words_of text))
 
 -- A command over told mounts is told.
 pub command_knows : (s : State) (mounts : List Mount) → AllTold s mounts → Knows s (command s)

@@ -13,3 +13,4 @@ pub mod Wording
 pub mod Clearing
 pub mod Acquiring
 pub mod Picturing
+pub mod Hosts

@@ -1,5 +1,5 @@
 -- The commands.
-use Rattle.std.specs.Prelude.{ℕ, Bool, true, false, ◌==◌, if◌then◌else◌, List, [], ◌∷◌, ◌++◌, length, bytes_eq, is_none}
+use Rattle.std.specs.Prelude.{ℕ, Bool, true, false, ◌==◌, ◌&&◌, if◌then◌else◌, List, [], ◌∷◌, ◌++◌, length, bytes_eq, is_none}
 use Rattle.std.specs.Prelude.{drop, slice_index_or, Option, Some, None, option_and_then, Result, Ok, Err, codes, decimal}
 use Rattle.base_fields.specs.Names.{lawful_name, joined_name, base_of, is_game_name}
 use Rattle.base_fields.specs.Numbers.{number_of}
@@ -38,7 +38,7 @@ use Rattle.wad2_lumps.specs.Names.{cleaned}
 use Rattle.console_session.specs.Pictures.{lump_text}
 use Rattle.console_session.specs.Verbs.{verb_of}
 use Rattle.console_session.specs.States.{State, Did, Told, Untold, says, takes, loads}
-use Rattle.console_session.specs.declared.ends.Next.TheVariants.{Goes, Waits, Quits}
+use Rattle.console_session.specs.declared.ends.Next.TheVariants.{Goes, Waits, Hands, Quits}
 use Rattle.console_session.specs.declared.verbs.Verb.{Verb}
 use Rattle.console_session.specs.declared.verbs.Verb.TheVariants as verb
 
@@ -472,10 +472,26 @@ by_words words s = if length words == 0 then says s Goes [] else by_verb (verb_o
 abbrev pub too_long : State → Did
 too_long s = says s Goes (joined (codes "line too long\n" ∷ []))
 
+-- whether a first word is neither a command nor an alias nor a cvar
+abbrev pub is_strange : (word : List ℕ) → State → Bool
+is_strange word s = is_none (verb_of word) && is_none (alias_value s.memory s.newest word)
+    && is_none (cvar_value s.memory s.cvars word)
+
+abbrev pub are_strange : (words : List (List ℕ)) → State → Bool
+are_strange words s = if length words == 0 then false else is_strange (word_at 0 words) s
+
+-- The text waits for who runs the console. Nothing is printed, and the frame ends.
+abbrev pub hand_over : List ℕ → State → Did
+hand_over text s = says (record s { handed = Some text }) Hands []
+
+-- the command of a text, which is handed over where the console doesn't know it and hands such commands over
+abbrev pub by_known : List ℕ → State → Did
+by_known text s = if s.hands && are_strange (words_of text) s then hand_over text s else by_words (words_of text) s
+
 -- the command of a text that was taken, or of one that is too long
 abbrev pub by_text : Option (List ℕ) → State → Did
 by_text None s = too_long s
-by_text (Some text) s = by_words (words_of text) s
+by_text (Some text) s = by_known text s
 
 -- the first command of the buffer
 unfoldable pub command : State → Did

@@ -8,7 +8,7 @@ use Rattle.outside_io.specs.Streams.{Adds}
 use Rattle.console_session.specs.States.{State, Reply, Done, Did, Told, Untold, CutsOff, StillPut}
 use Rattle.console_session.specs.Commands.{command}
 use Rattle.console_session.specs.declared.ends.Next.{Next}
-use Rattle.console_session.specs.declared.ends.Next.TheVariants.{Goes, Waits, Quits}
+use Rattle.console_session.specs.declared.ends.Next.TheVariants.{Goes, Waits, Hands, Quits}
 use Rattle.console_session.specs.declared.ends.Fault.{Fault}
 
 -- where a run ends: the state then, and whether `quit` was executed
@@ -39,6 +39,7 @@ and_then reply ran = record ran { replies = reply ∷ ran.replies }
 abbrev pub ending : Bool → Next → Option Bool
 ending through Goes = None
 ending through Waits = if through then None else Some false
+ending through Hands = Some false
 ending through Quits = Some true
 
 -- what follows a command that was done

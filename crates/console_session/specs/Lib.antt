@@ -5,5 +5,7 @@ pub mod Pictures
 pub mod Commands
 pub mod Frames
 pub mod Telling
+pub mod Values
+pub mod Hosts
 pub mod Serving
 pub mod Sessions

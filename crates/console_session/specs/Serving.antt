@@ -31,6 +31,8 @@ seen store folder console = record {
   newest = console.aliases;
   wad = console.wad;
   map = console.map;
+  hands = console.hands;
+  handed = console.handed;
 }
 
 -- each folder's count of faults, and of calls

@@ -23,8 +23,9 @@ pub record PathSeen : Type 0 where
   pub told : List (Option (List File))
 
 -- The memory; the path; the resources; the bytes of the command buffer; the host level, a mark of the low hunk; the cvars; the
--- record of the newest alias; and the names of the current wad and of the current map, which are models. The values of the
--- cvars, the aliases and the images of resources are read from the memory.
+-- record of the newest alias; the names of the current wad and of the current map, which are models; whether commands that
+-- the console doesn't know are handed over, and the text of the one that was. The values of the cvars, the aliases and the
+-- images of resources are read from the memory.
 pub record State : Type 0 where
   pub memory : Memory
   pub path : PathSeen
@@ -35,6 +36,8 @@ pub record State : Type 0 where
   pub newest : Option ℕ
   pub wad : Option (List ℕ)
   pub map : Option (List ℕ)
+  pub hands : Bool
+  pub handed : Option (List ℕ)
 
 -- a memory that was just created, with a zone of at least 4096 bytes and as many users of the cache as a session has
 pub record IsNew (m : Memory) : Type 0 where
@@ -61,6 +64,8 @@ started m path speed = record {
   newest = None;
   wad = None;
   map = None;
+  hands = false;
+  handed = None;
 }
 
 -- what a command prints, whether it asked for a file, and whether it asked for memory

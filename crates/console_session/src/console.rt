@@ -7,10 +7,14 @@ ghost use Rattle.console_session.specs.Serving.{seen, path_of};
 ghost use Rattle.res_table.specs.Resources.{no_resources};
 
 mod commands;
+mod cvars;
 mod frames;
+mod handing;
+mod hosting;
 mod resources;
 mod values;
 
+use crate::handed::HandedCommand;
 use base_fields::GameName;
 use cmd_buffer::{Aliases, CmdBuffer};
 use cvar_table::Cvars;
@@ -19,6 +23,15 @@ use outside_io::Folder;
 use res_table::ResTable;
 use search_paths::Paths;
 use std::alloc::AllocError;
+
+/// What a session stood on, handed back.
+#[derive(Drop)]
+pub struct Parts<M: Store, F: Folder = Box<dyn Folder>> {
+    /// The cvars and the aliases of the session are blocks of its zone still.
+    pub store: M,
+    pub paths: Paths<F>,
+    pub table: ResTable,
+}
 
 /// The store, the path and the resources, and what a console keeps of its own.
 #[derive(Drop)]
@@ -35,6 +48,10 @@ pub struct Console<M: Store, F: Folder> {
     wad: Option<GameName>,
     // The name of the file of the current map.
     map: Option<GameName>,
+    // Whether commands that the console doesn't know are handed over.
+    hands: bool,
+    // The one that was handed over, and not taken yet.
+    handed: Option<HandedCommand>,
     // Whether the run has ended.
     pub ended: bool,
 }
@@ -64,10 +81,31 @@ impl<M: Store, F: Folder> Console<M, F> {
                 aliases: Aliases::create(),
                 wad: None,
                 map: None,
+                hands: false,
+                handed: None,
                 ended: false,
             }),
             Err(ZoneError::Full { .. }) => unreachable!(),
             Err(ZoneError::OutOfMemory) => Err(AllocError),
+        }
+    }
+
+    pub fn store(&self) -> &M
+        ensures { result.now ≡ self.now.store }
+    {
+        &self.store
+    }
+
+    // The store, the path and the table.
+    pub fn into_parts(self) -> Parts<M, F>
+        ensures store { result.store ≡ self.store }
+        ensures paths { result.paths ≡ self.paths }
+        ensures table { result.table ≡ self.table }
+    {
+        Parts {
+            store: self.store,
+            paths: self.paths,
+            table: self.table,
         }
     }
 

@@ -1,21 +1,26 @@
 // How commands and steps end.
+use thiserror::Error;
 
 /// How the console goes on behind a command.
 #[derive(Clone, Copy, Debug, PartialEq, Eq)]
 pub enum Next {
     Goes,
     Waits,
+    Hands,
     Quits,
 }
 
 /// What ended a command in its reply.
-#[derive(Clone, Copy, Debug, PartialEq, Eq)]
+#[derive(Clone, Copy, Debug, PartialEq, Eq, Error)]
 pub enum Fault {
     /// A call of the folder of this number failed.
+    #[error("folder {folder}: read fault")]
     Folder { folder: u32 },
     /// A put of the reply failed.
+    #[error("write fault")]
     Write,
     /// The store ran out of memory.
+    #[error("out of memory")]
     Memory,
 }
 

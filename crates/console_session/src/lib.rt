@@ -4,11 +4,17 @@
 
 mod console;
 mod ends;
+mod handed;
+mod handing;
+mod hosting;
 mod replies;
 mod session;
+mod values;
 mod verbs;
 
+pub use console::Parts;
 pub use ends::{Fault, StepEnd};
+pub use handed::HandedCommand;
 pub use session::{Session, USERS};
 
 #[cfg(test)]

@@ -9,7 +9,7 @@ ghost use Rattle.res_table.specs.Resources.{no_resources};
 ghost use Rattle.console_session.specs.Sessions.{told_end, is_end};
 ghost use Rattle.console_session.specs.Frames.{finish, line, Runs, NoneAsks};
 
-use crate::console::Console;
+use crate::console::{Console, Parts};
 use crate::ends::{Fault, StepEnd};
 use cmd_buffer::CommandText;
 use mem_model::Store;
@@ -26,9 +26,9 @@ pub const USERS: u32 = 768;
 /// that is there is the image of its file, and the cvars and aliases are in blocks of the zone that nothing else writes.
 #[derive(Drop)]
 pub struct Session<M: Store, F: Folder = Box<dyn Folder>> {
-    console: Console<M, F>,
+    pub(crate) console: Console<M, F>,
     // The command that is run.
-    text: CommandText,
+    pub(crate) text: CommandText,
 }
 
 impl<M: Store, F: Folder> Model for Session<M, F> {
@@ -115,6 +115,27 @@ impl<M: Store, F: Folder> Session<M, F> {
         end
     }
 
+    /// The store, to be read.
+    pub fn store(&self) -> &M
+        ensures memory { M.state result.now ≡ self.now.state.memory }
+        ensures laid { Laid (M.state result.now) }
+    {
+        self.console.store()
+    }
+
+    /// Hands back what the session stood on, and drops the rest, which takes no memory.
+    pub fn into_parts(self) -> Parts<M, F>
+        ensures memory { M.state result.store ≡ self.state.memory }
+        ensures laid { Laid (M.state result.store) }
+        ensures path { path_of F.Folder result.paths ≡ self.state.path }
+        ensures faults { counts_of F.folder_faults result.paths ≡ self.faults }
+        ensures calls { counts_of F.folder_calls result.paths ≡ self.calls }
+        ensures table { result.table ≡ self.state.table }
+        ensures resources { AreHeld self.state.path.mounts result.table (M.state result.store) }
+    {
+        self.console.into_parts()
+    }
+
     /// Hands the folder of this number back, and drops the rest.
     pub fn take_folder(self, folder: u32) -> F
         requires { folder < length self.faults }
@@ -133,7 +154,7 @@ impl<M: Store, F: Folder> Session<M, F> {
 }
 
 // How a step ended.
-fn end_of(outcome: Result<bool, Fault>) -> StepEnd
+pub(crate) fn end_of(outcome: Result<bool, Fault>) -> StepEnd
     ensures told { told_end result ≡ outcome }
 {
     match outcome {
@@ -145,7 +166,7 @@ fn end_of(outcome: Result<bool, Fault>) -> StepEnd
     }
 }
 
-fn ends_run(end: StepEnd) -> bool
+pub(crate) fn ends_run(end: StepEnd) -> bool
     ensures { result ≡ is_end end }
 {
     match end {

@@ -109,3 +109,43 @@ fn a_session_is_finished(rt: HostRuntime) -> Result<(), Fail> {
     }
     Ok(())
 }
+
+#[test]
+fn a_caller_reads_and_sets_cvars(rt: HostRuntime) -> Result<(), Fail> {
+    let mut out = MemSink::create(rt.alloc(), 99, Vec::new(rt.alloc()))?;
+    let mut session = session(rt.alloc(), 9, 9)?;
+    let fov = session.cvar(b"fov").expect(&rt, "a cvar");
+    assert_eq!(rt; fov, b"90".as_slice());
+    assert_eq!(rt; session.set_cvar(b"fov", b"1 2"), Ok(true));
+    assert_eq!(rt; session.step(b"fov;volume 0.5", &mut out), StepEnd::Went);
+    assert_eq!(rt; out.got(), b"\"fov\" is \"1 2\"\n".as_slice());
+    let volume = session.cvar(b"volume").expect(&rt, "a cvar");
+    assert_eq!(rt; volume, b"0.5".as_slice());
+    assert_eq!(rt; session.set_cvar(b"Fov", b"3"), Ok(false));
+    assert!(rt; session.cvar(b"Fov").is_none());
+    Ok(())
+}
+
+#[test]
+fn strange_commands_are_handed_over(rt: HostRuntime) -> Result<(), Fail> {
+    let mut out = MemSink::create(rt.alloc(), 99, Vec::new(rt.alloc()))?;
+    let mut session = session(rt.alloc(), 9, 9)?;
+    assert_eq!(rt; session.step(b"god", &mut out), StepEnd::Went);
+    assert!(rt; session.take_handed().is_none());
+    session.hand_over(true);
+    assert!(rt; !session.ended());
+    let line = b"echo a;fov;give s \"9 9\";echo b;quit";
+    assert_eq!(rt; session.step(line, &mut out), StepEnd::Went);
+    let handed = session.take_handed().expect(&rt, "a command");
+    assert_eq!(rt; handed.text(), b"give s \"9 9\"".as_slice());
+    assert_eq!(rt; handed.words().count(), 3);
+    assert_eq!(rt; handed.words().word(2), b"9 9".as_slice());
+    assert!(rt; session.take_handed().is_none());
+    let before = b"Unknown command \"god\"\na \n\"fov\" is \"90\"\n";
+    assert_eq!(rt; out.got(), before.as_slice());
+    assert!(rt; !session.ended());
+    assert_eq!(rt; session.resume(&mut out), StepEnd::Quit);
+    assert!(rt; session.take_handed().is_none());
+    assert!(rt; out.got().ends_with(b"b \n"));
+    Ok(())
+}

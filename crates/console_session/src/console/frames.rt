@@ -4,11 +4,12 @@ ghost use Rattle.cmd_buffer.specs.Buffer.{taken_text};
 ghost use Rattle.mem_model.specs.Laid.{IsText};
 ghost use Rattle.console_session.specs.Holding.{Holds, AreShort};
 ghost use Rattle.console_session.specs.Serving.{seen, Does, RunsAs};
-ghost use Rattle.console_session.specs.Commands.{by_verb, by_words, by_text, command, map_in, name_in, number_in, table_in};
+ghost use Rattle.console_session.specs.Commands.{by_verb, by_words, by_known, by_text, command, map_in, name_in, number_in, table_in};
 ghost use Rattle.console_session.specs.Frames.{frame, line, overflowed, ending};
 
 use crate::console::Console;
 use crate::ends::{Fault, Next};
+use crate::handed::HandedCommand;
 use crate::replies::{put_runaway, put_too_long};
 use crate::verbs::{Verb, find_verb};
 use base_fields::{GameName, decimal, game_name, joined};
@@ -68,6 +69,21 @@ impl<M: Store, F: Folder> Console<M, F> {
         self.run_verb(find_verb(word), words, out)
     }
 
+    // Runs the command of a text, or keeps it for who runs the console.
+    #[tactic(auto, using(crate::proofs::Holding::holds_handed))]
+    fn run_text<O: Sink>(&mut self, text: &CommandText, out: &mut O) -> Result<Next, Fault>
+        requires holds { Holds (seen M.Store F.Folder self.old) }
+        requires text { IsText text.now.items }
+        ensures { Does M.Store F.Folder O.Sink (by_known text.now.items) self.old self.new out.old out.new result }
+    {
+        let words = tokenize(text);
+        if self.hands && self.are_strange(&words) {
+            self.handed = Some(HandedCommand::copied(text));
+            return Ok(Next::Hands);
+        }
+        self.run_words(&words, out)
+    }
+
     fn run_taken<O: Sink>(
         &mut self,
         taken: Taken,
@@ -81,7 +97,7 @@ impl<M: Store, F: Folder> Console<M, F> {
     {
         match taken {
             Taken::TooLong => put_too_long(out),
-            Taken::Text => self.run_words(&tokenize(text), out),
+            Taken::Text => self.run_text(text, out),
         }
     }
 
@@ -192,6 +208,7 @@ fn ends_frame(through: bool, next: Next) -> Option<bool>
     match next {
         Next::Goes => None,
         Next::Waits => { if through { None } else { Some(false) } }
+        Next::Hands => Some(false),
         Next::Quits => Some(true),
     }
 }
