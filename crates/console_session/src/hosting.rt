@@ -27,6 +27,7 @@ impl<M: Store, F: Folder> Session<M, F> {
             (room_answer result) self.new.state.memory }
         ensures own { IfOk result (λ place. HasNoResource self.new.state place.0) }
         ensures rest { self.new ≡ with_memory self.old self.new.state.memory }
+        ensures was_laid { Laid self.old.state.memory }
         ensures laid { Laid self.new.state.memory }
         ensures resources { AreHeld self.new.state.path.mounts self.new.state.table self.new.state.memory }
     {
@@ -40,6 +41,7 @@ impl<M: Store, F: Folder> Session<M, F> {
         ensures gives { Gives (high_alloc self.old.state.memory size name.now) M.frugal
             (without_temp self.old.state.memory) (room_answer result) self.new.state.memory }
         ensures rest { self.new ≡ with_memory self.old self.new.state.memory }
+        ensures was_laid { Laid self.old.state.memory }
         ensures laid { Laid self.new.state.memory }
         ensures resources { AreHeld self.new.state.path.mounts self.new.state.table self.new.state.memory }
     {
@@ -72,6 +74,7 @@ impl<M: Store, F: Folder> Session<M, F> {
         ensures gives { Gives (temp_alloc self.old.state.memory size) M.frugal
             (without_temp self.old.state.memory) (room_answer result) self.new.state.memory }
         ensures rest { self.new ≡ with_memory self.old self.new.state.memory }
+        ensures was_laid { Laid self.old.state.memory }
         ensures laid { Laid self.new.state.memory }
         ensures resources { AreHeld self.new.state.path.mounts self.new.state.table self.new.state.memory }
     {
@@ -85,6 +88,7 @@ impl<M: Store, F: Folder> Session<M, F> {
             (zone_answer result) self.new.state.memory }
         ensures own { IfOk result (λ place. HasNoValue self.new.state place.0) }
         ensures rest { self.new ≡ with_memory self.old self.new.state.memory }
+        ensures was_laid { Laid self.old.state.memory }
         ensures laid { Laid self.new.state.memory }
         ensures resources { AreHeld self.new.state.path.mounts self.new.state.table self.new.state.memory }
     {
