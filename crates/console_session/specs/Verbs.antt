@@ -14,26 +14,26 @@ named name v = record { name = name; verb = v }
 
 abbrev pub verbs : List Named
 verbs =
-    named (codes "file") verb.File ∷
-    named (codes "echo") verb.Echo ∷
+    named (codes "sound") verb.Sound ∷
+    named (codes "model") verb.Model ∷
+    named (codes "map") verb.Map ∷
     named (codes "exec") verb.Exec ∷
+    named (codes "echo") verb.Echo ∷
     named (codes "wait") verb.Wait ∷
-    named (codes "quit") verb.Quit ∷
+    named (codes "alias") verb.Alias ∷
+    named (codes "file") verb.File ∷
+    named (codes "info") verb.Info ∷
+    named (codes "report") verb.Report ∷
     named (codes "reserve") verb.Reserve ∷
     named (codes "video") verb.Video ∷
     named (codes "level") verb.Level ∷
-    named (codes "report") verb.Report ∷
-    named (codes "alias") verb.Alias ∷
     named (codes "path") verb.Path ∷
     named (codes "flush") verb.Flush ∷
-    named (codes "sound") verb.Sound ∷
-    named (codes "model") verb.Model ∷
-    named (codes "info") verb.Info ∷
-    named (codes "dump") verb.Dump ∷
     named (codes "wad") verb.Wad ∷
     named (codes "pic") verb.Pic ∷
-    named (codes "map") verb.Map ∷
     named (codes "vis") verb.Vis ∷
+    named (codes "dump") verb.Dump ∷
+    named (codes "quit") verb.Quit ∷
     []
 
 -- the first of these that a word names, in any case

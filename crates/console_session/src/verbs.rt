@@ -28,28 +28,28 @@ pub enum Verb {
     Vis,
 }
 
-// Each command with its name.
+// Each command with its name. Those that scripts give most stand first, so that they are found soon.
 static VERBS: [(&[u8], Verb); 20] = [
-    (b"file", Verb::File),
-    (b"echo", Verb::Echo),
+    (b"sound", Verb::Sound),
+    (b"model", Verb::Model),
+    (b"map", Verb::Map),
     (b"exec", Verb::Exec),
+    (b"echo", Verb::Echo),
     (b"wait", Verb::Wait),
-    (b"quit", Verb::Quit),
+    (b"alias", Verb::Alias),
+    (b"file", Verb::File),
+    (b"info", Verb::Info),
+    (b"report", Verb::Report),
     (b"reserve", Verb::Reserve),
     (b"video", Verb::Video),
     (b"level", Verb::Level),
-    (b"report", Verb::Report),
-    (b"alias", Verb::Alias),
     (b"path", Verb::Path),
     (b"flush", Verb::Flush),
-    (b"sound", Verb::Sound),
-    (b"model", Verb::Model),
-    (b"info", Verb::Info),
-    (b"dump", Verb::Dump),
     (b"wad", Verb::Wad),
     (b"pic", Verb::Pic),
-    (b"map", Verb::Map),
     (b"vis", Verb::Vis),
+    (b"dump", Verb::Dump),
+    (b"quit", Verb::Quit),
 ];
 
 // Whether the two are the same but for the case of their letters.
